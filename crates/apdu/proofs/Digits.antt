@@ -1,0 +1,59 @@
+-- Steps of the loops over digits. Assumes nothing.
+use mathlib.Core.Path.{_≡_, sym, ap, _∙_}
+use mathlib.Core.Bool.{true, false}
+use mathlib.Core.List.{List, [], _∷_, _++_}
+use mathlib.Core.Logic.{_⊎_, ⊎-elim}
+use Prim.Native.Nat.{ℕ, zero, suc, _+_, _-_, _*_, _/_, _%_, _^_, _≤_, _<_}
+use native.Mathlib.Nat.{pow-suc, pow-le-pow-right}
+use native.Mathlib.Numerals.{add-one}
+use native.Mathlib.Omega.{arith}
+use lib.Dec.{leb, ltb}
+use lib.ListN.{length, getD, drop, take, set}
+use Rattle.std.specs.declared.option.Option.the-variants.{None}
+use Rattle.std.proofs.shelf.Lists.{at-drop-more, append-assoc, drop-take, drop-set, append-nil, drop-all, length-take-le}
+use Rattle.std.proofs.shelf.Ways.{tells}
+use Rattle.apdu.specs.Users.{is-digit, number, digits, is-user}
+
+pub below-next : (n d i : ℕ) → n < 10 ^ i → d ≤ 9 → n * 10 + d < 10 ^ (i + 1)
+below-next n d i h k = rw (add-one, pow-suc) (omega arith)
+
+pub below-all : (n i : ℕ) → n < 10 ^ i → i ≤ 15 → n < 10 ^ 15
+below-all n i h k = let m : 10 ^ i ≤ 10 ^ 15 = pow-le-pow-right (omega arith) k in omega arith
+
+number-digit : (n c : ℕ) (cs : List ℕ) → 48 ≤ c → c ≤ 57 → number n (c ∷ cs) ≡ number (n * 10 + (c - 48)) cs
+number-digit n c cs l h = let e : is-digit c ≡ true = grind (arith, tells) in rw e
+
+pub number-more : (n i : ℕ) (cs : List ℕ) → i < length cs → 48 ≤ getD cs i 0 → getD cs i 0 ≤ 57 → number n (drop i cs) ≡ number (n * 10 + (getD cs i 0 - 48)) (drop (i + 1) cs)
+number-more n i cs h l u = at-drop-more (number n) cs i 0 h ∙ number-digit n _ (drop (i + 1) cs) l u
+
+pub number-none : (n i : ℕ) (cs : List ℕ) → i < length cs → (getD cs i 0 < 48) ⊎ (57 < getD cs i 0) → number n (drop i cs) ≡ None
+number-none n i cs h o =
+    let e : is-digit (getD cs i 0) ≡ false = ⊎-elim (λ l. grind (arith, tells)) (λ l. grind (arith, tells)) o in
+    at-drop-more (number n) cs i 0 h ∙ rw e
+
+-- a count of digits and a number below its power of ten make a lawful key
+pub lawful : (k n : ℕ) → 1 ≤ k → k ≤ 15 → n < 10 ^ k → is-user (record { key = k * 1000000000000000 + n }) ≡ true
+lawful k n one most small =
+    let all : n < 10 ^ 15 = below-all n k small most in
+    let q : (k * 1000000000000000 + n) / 1000000000000000 ≡ k = omega arith in
+    let r : (k * 1000000000000000 + n) % 1000000000000000 ≡ n = omega arith in
+    rw (q, r) (grind (arith, tells))
+
+-- the last of the digits that are left, put in its place
+tail-set : (j m x : ℕ) (out : List ℕ) → j < length out → drop j (take (j + suc m) (set out j x)) ≡ x ∷ drop (j + 1) (take (j + 1 + m) out)
+tail-set j m x out h = drop-take j (suc m) (set out j x) ∙ ap (take (suc m)) (drop-set out j x h) ∙ ap (λ l. x ∷ l) (sym (drop-take (j + 1) m out))
+
+step : (j m n : ℕ) (out : List ℕ) → j < length out → digits j (n / 10) ++ drop j (take (j + suc m) (set out j (48 + n % 10))) ≡ digits (suc j) n ++ drop (j + 1) (take (j + 1 + m) out)
+step j m n out h = ap (λ l. digits j (n / 10) ++ l) (tail-set j m (48 + n % 10) out h) ∙ sym (append-assoc (digits j (n / 10)) ((48 + n % 10) ∷ []) (drop (j + 1) (take (j + 1 + m) out)))
+
+pub digits-step : (i k n : ℕ) (out : List ℕ) → 0 < i → i ≤ k → k ≤ length out → digits (i - 1) (n / 10) ++ drop (i - 1) (take k (set out (i - 1) (48 + n % 10))) ≡ digits i n ++ drop i (take k out)
+digits-step zero k n out p h l = absurd (omega arith)
+digits-step (suc j) k n out p h l =
+    let e : suc j - 1 ≡ j = omega arith in
+    let a : k ≡ j + suc (k - suc j) = omega arith in
+    let b : k ≡ j + 1 + (k - suc j) = omega arith in
+    let f : suc j ≡ j + 1 = omega arith in
+    (λ t. digits (e t) (n / 10) ++ drop (e t) (take (a t) (set out (e t) (48 + n % 10)))) ∙ step j (k - suc j) n out (omega arith) ∙ (λ t. digits (suc j) n ++ drop (sym f t) (take (sym b t) out))
+
+pub digits-none : (k n : ℕ) (out : List ℕ) → k ≤ length out → digits k n ++ drop k (take k out) ≡ digits k n
+digits-none k n out h = ap (λ l. digits k n ++ l) (drop-all k (take k out) (omega (arith, length-take-le k out h))) ∙ append-nil (digits k n)

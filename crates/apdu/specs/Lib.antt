@@ -1,0 +1,4 @@
+pub mod Fields
+pub mod Users
+pub mod Fronts
+pub mod Encode

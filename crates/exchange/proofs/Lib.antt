@@ -1,0 +1,3 @@
+mod Soonest
+mod Refused
+mod Earliest

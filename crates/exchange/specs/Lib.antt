@@ -1,0 +1,9 @@
+pub mod FitOut
+pub mod Dialogue
+pub mod Search
+pub mod Table
+pub mod Link
+pub mod Service
+pub mod Entry
+pub mod Calls
+pub mod Laws

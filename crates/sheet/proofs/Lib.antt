@@ -1,0 +1,4 @@
+mod Bytes
+mod OneEach
+mod Pieces
+mod Worked

@@ -1,0 +1,6 @@
+pub mod Records
+pub mod Bench
+pub mod Lines
+pub mod Run
+pub mod Cases
+pub mod Laws
