@@ -4,21 +4,14 @@ use mathlib.Core.Bool.{true, false}
 use mathlib.Core.List.{List, [], _∷_, _++_}
 use mathlib.Core.Logic.{_⊎_, ⊎-elim}
 use Prim.Native.Nat.{ℕ, zero, suc, _+_, _-_, _*_, _/_, _%_, _^_, _≤_, _<_}
-use native.Mathlib.Nat.{pow-suc, pow-le-pow-right}
-use native.Mathlib.Numerals.{add-one}
 use native.Mathlib.Omega.{arith}
 use lib.Dec.{leb, ltb}
 use lib.ListN.{length, getD, drop, take, set}
 use Rattle.std.specs.declared.option.Option.the-variants.{None}
 use Rattle.std.proofs.shelf.Lists.{at-drop-more, append-assoc, drop-take, drop-set, append-nil, drop-all, length-take-le}
 use Rattle.std.proofs.shelf.Ways.{tells}
+use Rattle.apdu.proofs.Powers.{below-most}
 use Rattle.apdu.specs.Users.{is-digit, number, digits, is-user}
-
-pub below-next : (n d i : ℕ) → n < 10 ^ i → d ≤ 9 → n * 10 + d < 10 ^ (i + 1)
-below-next n d i h k = rw (add-one, pow-suc) (omega arith)
-
-pub below-all : (n i : ℕ) → n < 10 ^ i → i ≤ 15 → n < 10 ^ 15
-below-all n i h k = let m : 10 ^ i ≤ 10 ^ 15 = pow-le-pow-right (omega arith) k in omega arith
 
 number-digit : (n c : ℕ) (cs : List ℕ) → 48 ≤ c → c ≤ 57 → number n (c ∷ cs) ≡ number (n * 10 + (c - 48)) cs
 number-digit n c cs l h = let e : is-digit c ≡ true = grind (arith, tells) in rw e
@@ -34,7 +27,7 @@ number-none n i cs h o =
 -- a count of digits and a number below its power of ten make a lawful key
 pub lawful : (k n : ℕ) → 1 ≤ k → k ≤ 15 → n < 10 ^ k → is-user (record { key = k * 1000000000000000 + n }) ≡ true
 lawful k n one most small =
-    let all : n < 10 ^ 15 = below-all n k small most in
+    let all : n < 10 ^ 15 = below-most 10 n k 15 (omega arith) small most in
     let q : (k * 1000000000000000 + n) / 1000000000000000 ≡ k = omega arith in
     let r : (k * 1000000000000000 + n) % 1000000000000000 ≡ n = omega arith in
     rw (q, r) (grind (arith, tells))

@@ -1,2 +1,3 @@
 pub mod Digits
 pub mod Overs
+pub mod Powers

@@ -1,16 +1,11 @@
--- The elements of a list that meet a criterion.
-use mathlib.Core.Bool.{Bool, false, cond, _||_}
+-- The first element of a list that meets a criterion.
+use mathlib.Core.Bool.{Bool, cond}
 use mathlib.Core.List.{List, [], _∷_}
 use Prim.Native.Nat.{ℕ, _+_}
 use Rattle.std.specs.declared.option.Option.{Option}
 use Rattle.std.specs.declared.option.Option.the-variants.{Some, None}
 
 module _ {X : Type 0} (meets : X → Bool) where
-  -- some element meets it
-  abbrev pub any : List X → Bool
-  any [] = false
-  any (x ∷ xs) = meets x || any xs
-
   -- the place of the first that meets it, counted from n
   abbrev pub place-from : ℕ → List X → Option ℕ
   place-from n [] = None

@@ -3,10 +3,11 @@ use mathlib.Core.Bool.{Bool, true, false, cond, _||_, _&&_}
 use mathlib.Core.List.{List, [], _∷_}
 use Prim.Native.Nat.{ℕ, _+_}
 use lib.Dec.{leb, ltb, eqb}
+use Rattle.std.specs.Options.{isSome}
 use Rattle.std.specs.declared.option.Option.{Option}
 use Rattle.std.specs.declared.option.Option.the-variants.{Some, None}
 use Rattle.exchange.specs.declared.dialogue.Dialogue.{Dialogue}
-use Rattle.exchange.specs.Search.{any, place}
+use Rattle.exchange.specs.Search.{place}
 
 -- a dialogue's timer ends at or before the reading
 abbrev pub ends-by : ℕ → Option Dialogue → Bool
@@ -15,7 +16,7 @@ ends-by reading (Some d) = leb (d .ends) reading
 
 -- some timer does
 abbrev pub due : ℕ → List (Option Dialogue) → Bool
-due reading slots = any (ends-by reading) slots
+due reading slots = isSome (place (ends-by reading) slots)
 
 abbrev pub is-free : Option Dialogue → Bool
 is-free None = true

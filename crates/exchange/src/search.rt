@@ -1,28 +1,16 @@
-// The elements of a slice that meet a criterion, once for every type.
+// The first element of a slice that meets a criterion, once for every type.
 ghost use mathlib.Core.Path.{_≡_};
 ghost use mathlib.Core.Bool.{Bool};
 ghost use Prim.Native.Nat.{_<_};
 ghost use lib.ListN.{length};
 ghost use Rattle.std.specs.Options.{Cases};
-ghost use Rattle.exchange.specs.Search.{any, place};
+ghost use Rattle.exchange.specs.Search.{place};
 
 pub(crate) trait Criterion<T> {
     ghost meets: { Self → T → Bool };
 
     fn is_met(&self, x: &T) -> bool
         ensures { λ r. ⌜ r ≡ meets (now (self .entry)) (now (x .entry)) ⌝ };
-}
-
-// Whether some element meets it.
-pub(crate) fn any_meets<T, P: Criterion<T>>(xs: &[T], p: &P) -> bool
-    ensures { λ r. ⌜ r ≡ any (P·Criterion .meets (now (p .entry))) (now (xs .entry)) ⌝ }
-{
-    for x in xs {
-        if p.is_met(x) {
-            return true;
-        }
-    }
-    false
 }
 
 // The place of the first element that meets it.

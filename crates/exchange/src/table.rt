@@ -6,7 +6,6 @@ ghost use Rattle.std.specs.Options.{Cases};
 ghost use Rattle.exchange.specs.Table.{ends-by, due, is-free, free-place, earlier, sooner, first-ended};
 use crate::dialogue::Dialogue;
 use crate::search::Criterion;
-use crate::search::any_meets;
 use crate::search::place_where;
 
 // A dialogue whose timer ends at or before the reading.
@@ -42,7 +41,7 @@ impl Criterion<Option<Dialogue>> for IsFree as IsFreeCriterion {
 pub(crate) fn timer_due(dialogues: &[Option<Dialogue>], reading: u64) -> bool
     ensures { λ r. ⌜ r ≡ due reading (now (dialogues .entry)) ⌝ }
 {
-    any_meets(dialogues, &EndsBy { reading })
+    place_where(dialogues, &EndsBy { reading }).is_some()
 }
 
 // The first place with no dialogue.

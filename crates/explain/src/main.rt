@@ -40,7 +40,8 @@ fn explain(rt: &LibcRuntime, tape: &[u8], made: &[u8]) -> io::Result<()> {
 fn main(rt: LibcRuntime) -> Result<(), AnyError> {
     let mut tape = Vec::new(rt.alloc());
     rt.stdin().read_to_end(&mut tape)?;
-    let made = sheet(rt.alloc(), &tape)?;
+    let mut made = Vec::new(rt.alloc());
+    sheet(&tape, &mut made)?;
     explain(&rt, &tape, &made)?;
     Ok(())
 }

@@ -1,4 +1,4 @@
-mod Bytes
+mod Growth
 mod OneEach
 mod Pieces
 mod Worked

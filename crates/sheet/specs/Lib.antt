@@ -1,3 +1,4 @@
+pub mod Adds
 pub mod Records
 pub mod Bench
 pub mod Lines

@@ -1,11 +1,10 @@
 // The records of a sheet.
 ghost use mathlib.Core.Path.{_≡_};
-ghost use mathlib.Core.List.{_∷_, _++_};
+ghost use mathlib.Core.List.{_∷_};
 ghost use Prim.Native.Nat.{_≤_};
 ghost use lib.ListN.{length, take};
-ghost use Rattle.std.specs.Of.Vec.{vec-items};
-ghost use Rattle.std.specs.Vec.{made};
 ghost use Rattle.apdu.specs.Fields.{field};
+ghost use Rattle.sheet.specs.Adds.{Adds};
 ghost use Rattle.sheet.specs.Lines.{report-record, sheet-record};
 use exchange::Cause;
 use exchange::Done;
@@ -44,7 +43,7 @@ fn front(buffer: &[u8], size: usize) -> &[u8]
 
 fn add_sent(peer: u8, apdu: &[u8], sheet: &mut Vec<u8>) -> Result<(), AllocError>
     requires { ⌜ length (now apdu) ≤ 64 ⌝ }
-    ensures { λ r. ⌜ made r (λ _. vec-items (now (sheet .exit)) ≡ vec-items (now (sheet .entry)) ++ field 0x30 (peer ∷ now (apdu .entry))) ⌝ }
+    ensures { λ r. ⌜ Adds r (now (sheet .entry)) (now (sheet .exit)) (field 0x30 (peer ∷ now (apdu .entry))) ⌝ }
 {
     let size = apdu.len() + 1;
     sheet.extend_from_slice(&[0x30, (size / 256) as u8, (size % 256) as u8, peer])?;
@@ -58,7 +57,7 @@ pub(crate) fn add_record(
     buffer: &[u8; 64],
     sheet: &mut Vec<u8>,
 ) -> Result<(), AllocError>
-    ensures { λ r. ⌜ made r (λ _. vec-items (now (sheet .exit)) ≡ vec-items (now (sheet .entry)) ++ sheet-record (now (outcome .entry)) (now (buffer .entry))) ⌝ }
+    ensures { λ r. ⌜ Adds r (now (sheet .entry)) (now (sheet .exit)) (sheet-record (now (outcome .entry)) (now (buffer .entry))) ⌝ }
 {
     match *outcome {
         Ok(Done::Quiet) => sheet.extend_from_slice(&[0x33, 0, 0]),

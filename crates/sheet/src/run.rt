@@ -1,12 +1,9 @@
 // The run of a whole tape.
-ghost use mathlib.Core.Path.{_≡_};
-ghost use mathlib.Core.List.{_++_};
-ghost use Rattle.std.specs.Of.Vec.{vec-items};
-ghost use Rattle.std.specs.Vec.{made};
 ghost use Rattle.apdu.specs.Fields.{unread};
 ghost use Rattle.sheet.specs.Bench.{state-of};
 ghost use Rattle.sheet.specs.Cases.{Cases-stand};
 ghost use Rattle.refusal.specs.declared.Refusal.the-variants.{Garbled};
+ghost use Rattle.sheet.specs.Adds.{Adds};
 ghost use Rattle.sheet.specs.Lines.{refusal-record};
 ghost use Rattle.sheet.specs.Laws.{One-record-each};
 ghost use Rattle.sheet.specs.Run.{pieces-of, run-on, run-from, sheet-of};
@@ -18,11 +15,10 @@ use exchange::Done;
 use exchange::Link;
 use refusal::Refusal;
 use std::alloc::AllocError;
-use std::alloc::Global;
 
 // A record that is cut.
 fn add_cut(sheet: &mut Vec<u8>) -> Result<(), AllocError>
-    ensures { λ r. ⌜ made r (λ _. vec-items (now (sheet .exit)) ≡ vec-items (now (sheet .entry)) ++ refusal-record Garbled) ⌝ }
+    ensures { λ r. ⌜ Adds r (now (sheet .entry)) (now (sheet .exit)) (refusal-record Garbled) ⌝ }
 {
     add_record(&Err(Refusal::Garbled), &[0u8; 64], sheet)
 }
@@ -33,7 +29,7 @@ fn run_on(
     reader: &mut Reader<'_>,
     sheet: &mut Vec<u8>,
 ) -> Result<(), AllocError>
-    ensures { λ r. ⌜ made r (λ _. vec-items (now (sheet .exit)) ≡ vec-items (now (sheet .entry)) ++ run-on (state-of (now (bench .entry))) (pieces-of (unread (now (reader .entry))))) ⌝ }
+    ensures { λ r. ⌜ Adds r (now (sheet .entry)) (now (sheet .exit)) (run-on (state-of (now (bench .entry))) (pieces-of (unread (now (reader .entry))))) ⌝ }
 {
     while !reader.is_done() {
         let mut buffer = [0u8; 64];
@@ -48,7 +44,7 @@ fn run_on(
 
 // A whole tape, from its first record on.
 fn run_all(tape: &[u8], sheet: &mut Vec<u8>) -> Result<(), AllocError>
-    ensures { λ r. ⌜ made r (λ _. vec-items (now (sheet .exit)) ≡ vec-items (now (sheet .entry)) ++ sheet-of (now (tape .entry))) ⌝ }
+    ensures { λ r. ⌜ Adds r (now (sheet .entry)) (now (sheet .exit)) (sheet-of (now (tape .entry))) ⌝ }
 {
     let mut reader = Reader::new(tape);
     if reader.is_done() {
@@ -69,19 +65,11 @@ fn run_all(tape: &[u8], sheet: &mut Vec<u8>) -> Result<(), AllocError>
     }
 }
 
-fn make_sheet(heap: Global, tape: &[u8]) -> Result<Vec<u8>, AllocError>
-    ensures { λ r. ⌜ made r (λ v. vec-items v ≡ sheet-of (now (tape .entry))) ⌝ }
-{
-    let mut sheet = Vec::with_capacity(heap, tape.len())?;
-    run_all(tape, &mut sheet)?;
-    Ok(sheet)
-}
-
-// The sheet of a tape; an error only where memory is wanting.
-pub fn sheet(heap: Global, tape: &[u8]) -> Result<Vec<u8>, AllocError>
-    ensures value { λ r. ⌜ made r (λ v. vec-items v ≡ sheet-of (now (tape .entry))) ⌝ }
+// Adds the sheet of a tape to a vector; an error only where its room does not suffice and memory is wanting.
+pub fn sheet(tape: &[u8], sheet: &mut Vec<u8>) -> Result<(), AllocError>
+    ensures value { λ r. ⌜ Adds r (now (sheet .entry)) (now (sheet .exit)) (sheet-of (now (tape .entry))) ⌝ }
     ensures cases { λ _. ⌜ Cases-stand ⌝ }
     ensures one_each { λ _. ⌜ One-record-each ⌝ }
 {
-    make_sheet(heap, tape)
+    run_all(tape, sheet)
 }

@@ -36,7 +36,8 @@ fn read_all(rt: &LibcRuntime) -> io::Result<Vec<u8>> {
 
 fn main(rt: LibcRuntime) -> Result<(), AnyError> {
     let tape = read_all(&rt)?;
-    let made = sheet(rt.alloc(), &tape)?;
+    let mut made = Vec::with_capacity(rt.alloc(), tape.len())?;
+    sheet(&tape, &mut made)?;
     rt.stdout().write_all(&made)?;
     Ok(())
 }

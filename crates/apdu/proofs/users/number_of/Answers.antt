@@ -6,14 +6,15 @@ use lib.ListN.{length}
 use borrow.Author.Needs.{needs}
 use Rattle.std.proofs.shelf.Lists.{at-drop-all}
 use Rattle.apdu.specs.Users.{number}
-use Rattle.apdu.proofs.Digits.{below-next, below-all, number-more, number-none}
+use Rattle.apdu.proofs.Digits.{number-more, number-none}
+use Rattle.apdu.proofs.Powers.{below-next, below-most}
 use Rattle.apdu.proofs.users.number_of.Needs as need
 
 pub mul-n : need.mul-n
-mul-n c = let k : c .loop-c .n < 10 ^ 15 = below-all _ _ (c .loop-c .inv .1) (omega arith) in search needs
+mul-n c = let k : c .loop-c .n < 10 ^ 15 = below-most 10 _ _ 15 (omega arith) (c .loop-c .inv .1) (omega arith) in search needs
 
 pub add-n : need.add-n
-add-n c = let k : c .loop-c .n < 10 ^ 15 = below-all _ _ (c .loop-c .inv .1) (omega arith) in search needs
+add-n c = let k : c .loop-c .n < 10 ^ 15 = below-most 10 _ _ 15 (omega arith) (c .loop-c .inv .1) (omega arith) in search needs
 
 pub returns-in-rest : need.returns-in-rest
 returns-in-rest c = record { value = sym (number-none _ _ _ (c .loop-c-test .taken) (inl (omega arith))) ∙ c .loop-c .inv .0; bound = tt }
@@ -22,7 +23,7 @@ pub returns-in-rest·2 : need.returns-in-rest·2
 returns-in-rest·2 c = record { value = sym (number-none _ _ _ (c .loop-c-test .taken) (inr (omega arith))) ∙ c .loop-c .inv .0; bound = tt }
 
 pub loop-c-again : need.loop-c-again
-loop-c-again c = (sym (number-more _ _ _ (c .loop-c-test .taken) (omega arith) (omega arith)) ∙ c .loop-c .inv .0, below-next _ _ _ (c .loop-c .inv .1) (omega arith))
+loop-c-again c = (sym (number-more _ _ _ (c .loop-c-test .taken) (omega arith) (omega arith)) ∙ c .loop-c .inv .0, below-next 10 _ _ _ (c .loop-c .inv .1) (omega arith))
 
 pub returns : need.returns
 returns c =
