@@ -5,10 +5,9 @@ use mathlib.Core.List.{List, [], _∷_, _++_}
 use mathlib.Core.Logic.{_⊎_, ⊎-elim}
 use Prim.Native.Nat.{ℕ, zero, suc, _+_, _-_, _*_, _/_, _%_, _^_, _≤_, _<_}
 use native.Mathlib.Omega.{arith}
-use lib.Dec.{leb, ltb}
-use lib.ListN.{length, getD, drop, take, set}
+use lib.ListN.{length, getD, drop, set}
 use Rattle.std.specs.declared.option.Option.the-variants.{None}
-use Rattle.std.proofs.shelf.Lists.{at-drop-more, append-assoc, drop-take, drop-set, append-nil, drop-all, length-take-le}
+use Rattle.std.proofs.shelf.Lists.{at-drop-more, append-assoc, drop-set, append-nil, drop-all}
 use Rattle.std.proofs.shelf.Ways.{tells}
 use Rattle.apdu.proofs.Powers.{below-most}
 use Rattle.apdu.specs.Users.{is-digit, number, digits, is-user}
@@ -33,20 +32,15 @@ lawful k n one most small =
     rw (q, r) (grind (arith, tells))
 
 -- the last of the digits that are left, put in its place
-tail-set : (j m x : ℕ) (out : List ℕ) → j < length out → drop j (take (j + suc m) (set out j x)) ≡ x ∷ drop (j + 1) (take (j + 1 + m) out)
-tail-set j m x out h = drop-take j (suc m) (set out j x) ∙ ap (take (suc m)) (drop-set out j x h) ∙ ap (λ l. x ∷ l) (sym (drop-take (j + 1) m out))
+step : (j n : ℕ) (out : List ℕ) → j < length out → digits j (n / 10) ++ drop j (set out j (48 + n % 10)) ≡ digits (suc j) n ++ drop (j + 1) out
+step j n out h = ap (λ l. digits j (n / 10) ++ l) (drop-set out j (48 + n % 10) h) ∙ sym (append-assoc (digits j (n / 10)) ((48 + n % 10) ∷ []) (drop (j + 1) out))
 
-step : (j m n : ℕ) (out : List ℕ) → j < length out → digits j (n / 10) ++ drop j (take (j + suc m) (set out j (48 + n % 10))) ≡ digits (suc j) n ++ drop (j + 1) (take (j + 1 + m) out)
-step j m n out h = ap (λ l. digits j (n / 10) ++ l) (tail-set j m (48 + n % 10) out h) ∙ sym (append-assoc (digits j (n / 10)) ((48 + n % 10) ∷ []) (drop (j + 1) (take (j + 1 + m) out)))
-
-pub digits-step : (i k n : ℕ) (out : List ℕ) → 0 < i → i ≤ k → k ≤ length out → digits (i - 1) (n / 10) ++ drop (i - 1) (take k (set out (i - 1) (48 + n % 10))) ≡ digits i n ++ drop i (take k out)
-digits-step zero k n out p h l = absurd (omega arith)
-digits-step (suc j) k n out p h l =
+pub digits-step : (i n x : ℕ) (out : List ℕ) → x ≡ 48 + n % 10 → 0 < i → i ≤ length out → digits (i - 1) (n / 10) ++ drop (i - 1) (set out (i - 1) x) ≡ digits i n ++ drop i out
+digits-step zero n x out q p h = absurd (omega arith)
+digits-step (suc j) n x out q p h =
     let e : suc j - 1 ≡ j = omega arith in
-    let a : k ≡ j + suc (k - suc j) = omega arith in
-    let b : k ≡ j + 1 + (k - suc j) = omega arith in
     let f : suc j ≡ j + 1 = omega arith in
-    (λ t. digits (e t) (n / 10) ++ drop (e t) (take (a t) (set out (e t) (48 + n % 10)))) ∙ step j (k - suc j) n out (omega arith) ∙ (λ t. digits (suc j) n ++ drop (sym f t) (take (sym b t) out))
+    (λ t. digits (e t) (n / 10) ++ drop (e t) (set out (e t) (q t))) ∙ step j n out (omega arith) ∙ (λ t. digits (suc j) n ++ drop (sym f t) out)
 
-pub digits-none : (k n : ℕ) (out : List ℕ) → k ≤ length out → digits k n ++ drop k (take k out) ≡ digits k n
-digits-none k n out h = ap (λ l. digits k n ++ l) (drop-all k (take k out) (omega (arith, length-take-le k out h))) ∙ append-nil (digits k n)
+pub digits-none : (n : ℕ) (out : List ℕ) → digits (length out) n ++ drop (length out) out ≡ digits (length out) n
+digits-none n out = ap (λ l. digits (length out) n ++ l) (drop-all (length out) out (omega arith)) ∙ append-nil (digits (length out) n)

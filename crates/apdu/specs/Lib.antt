@@ -1,4 +1,10 @@
-pub mod Fields
+pub mod Tags
 pub mod Users
 pub mod Fronts
+pub mod Rows
+pub mod Values
+pub mod Grammar
+pub mod Decode
 pub mod Encode
+pub mod Laws
+pub mod Cases

@@ -1,9 +1,9 @@
 // User numbers: 1 to 15 digits, leading zeros counted.
 ghost use mathlib.Core.Path.{_≡_};
 ghost use mathlib.Core.Bool.{true};
-ghost use Prim.Native.Nat.{_≤_, _<_, _^_};
+ghost use Prim.Native.Nat.{_+_, _%_, _≤_, _<_, _^_};
 ghost use Rattle.std.specs.Options.{Cases};
-ghost use lib.ListN.{length, take};
+ghost use lib.ListN.{length};
 ghost use Rattle.apdu.specs.Users.{number, digits, user-number, user-digits, is-user};
 
 // Count of digits × 10^15 + value.
@@ -31,18 +31,47 @@ fn number_of(text: &[u8]) -> Option<u64>
     Some(n)
 }
 
-// The digits of a number, the last one at the place count - 1.
-fn digits_of(count: usize, n: u64) -> [u8; 15]
-    requires { ⌜ count ≤ 15 ⌝ }
-    ensures { λ r. ⌜ take count r ≡ digits count n ⌝ }
+// The last digit of a number.
+fn last_digit(n: u64) -> u8
+    ensures { λ r. ⌜ r ≡ 48 + n % 10 ⌝ }
 {
-    let mut out = [0u8; 15];
+    b'0' + (n % 10) as u8
+}
+
+// As many digits of a number as there are places, the last digit in the last place.
+fn put_digits(places: &mut [u8], n: u64)
+    ensures { λ _. ⌜ now (places .exit) ≡ digits (length (now (places .entry))) n ⌝ }
+{
     let mut n = n;
-    for i in (0..count).rev() {
-        out[i] = b'0' + (n % 10) as u8;
+    for i in (0..places.len()).rev() {
+        places[i] = last_digit(n);
         n /= 10;
     }
-    out
+}
+
+// 10 to a power of at most 15.
+fn ten_to(power: u64) -> u64
+    requires { ⌜ power ≤ 15 ⌝ }
+    ensures { λ r. ⌜ r ≡ 10 ^ power ⌝ }
+{
+    match power {
+        0 => 1,
+        1 => 10,
+        2 => 100,
+        3 => 1_000,
+        4 => 10_000,
+        5 => 100_000,
+        6 => 1_000_000,
+        7 => 10_000_000,
+        8 => 100_000_000,
+        9 => 1_000_000_000,
+        10 => 10_000_000_000,
+        11 => 100_000_000_000,
+        12 => 1_000_000_000_000,
+        13 => 10_000_000_000_000,
+        14 => 100_000_000_000_000,
+        _ => 1_000_000_000_000_000,
+    }
 }
 
 impl UserNumber {
@@ -65,16 +94,23 @@ impl UserNumber {
         ensures { λ r. ⌜ r ≡ is-user self ⌝ }
     {
         let count = self.key / COUNT;
-        1 <= count && count <= 15 && self.key % COUNT < 10u64.pow(count as u32)
+        1 <= count && count <= 15 && self.key % COUNT < ten_to(count)
     }
 
-    // Its digits, from the front of the array, and how many there are.
-    pub(crate) fn text(self) -> ([u8; 15], usize)
+    // How many digits it has.
+    pub(crate) fn count(self) -> usize
         requires { ⌜ is-user self ≡ true ⌝ }
-        ensures digits { λ r. ⌜ take (r .1) (r .0) ≡ user-digits self ⌝ }
-        ensures bound { λ r. ⌜ r .1 ≤ 15 ⌝ }
+        ensures count { λ r. ⌜ r ≡ length (user-digits self) ⌝ }
+        ensures bound { λ r. ⌜ r ≤ 15 ⌝ }
     {
-        let count = (self.key / COUNT) as usize;
-        (digits_of(count, self.key % COUNT), count)
+        (self.key / COUNT) as usize
+    }
+
+    // Its digits, in as many places.
+    pub(crate) fn put(self, places: &mut [u8])
+        requires { ⌜ length (now places) ≡ length (user-digits self) ⌝ }
+        ensures { λ _. ⌜ now (places .exit) ≡ user-digits self ⌝ }
+    {
+        put_digits(places, self.key % COUNT)
     }
 }

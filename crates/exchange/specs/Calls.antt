@@ -11,7 +11,8 @@ use Rattle.std.specs.declared.result.Result.the-variants.{Ok, Err}
 use Rattle.refusal.specs.declared.Refusal.{Refusal}
 use Rattle.refusal.specs.declared.Refusal.the-variants.{Misdialled}
 use Rattle.apdu.specs.declared.apdus.Apdu.{Apdu}
-use Rattle.apdu.specs.declared.apdus.Body.the-variants.{InvokeAuthWtmUser}
+use Rattle.apdu.specs.declared.apdus.Body.the-variants.{Invoke}
+use Rattle.apdu.specs.declared.apdus.Invoke.the-variants.{AuthWtmUser}
 use Rattle.apdu.specs.declared.users.UserNumber.{UserNumber}
 use Rattle.apdu.specs.Users.{user-number}
 use Rattle.apdu.specs.Encode.{encode}
@@ -57,9 +58,9 @@ linked-user (Some user) links peer = cond (is-linked links peer) (Ok user) (Err 
 abbrev pub dialled : List ℕ → ℕ → List Link → Result UserNumber Refusal
 dialled digits peer links = linked-user (user-number digits) links peer
 
--- the invoke that asks a peer to authenticate a user
+-- the invoke that asks a peer to authenticate a user, without a unit
 abbrev pub auth-invoke : ℕ → UserNumber → Apdu
-auth-invoke id user = record { id = id; body = InvokeAuthWtmUser user }
+auth-invoke id user = record { id = id; body = Invoke (AuthWtmUser (record { user = user; unit = None })) }
 
 abbrev pub initiated : Service → ℕ → List ℕ → ℕ → List Link → List ℕ → After
 initiated s reading digits peer links out =

@@ -22,7 +22,9 @@ use crate::outcome::Done;
 use crate::service::Service;
 use crate::table::first_to_end;
 use apdu::Apdu;
+use apdu::AuthWtmArg;
 use apdu::Body;
+use apdu::Invoke;
 use apdu::UserNumber;
 use directory::Directory;
 use refusal::Refusal;
@@ -86,7 +88,7 @@ impl Service {
         let size = put_apdu(
             &Apdu {
                 id,
-                body: Body::InvokeAuthWtmUser { user },
+                body: Body::Invoke(Invoke::AuthWtmUser(AuthWtmArg { user, unit: None })),
             },
             out,
         );

@@ -1,10 +1,10 @@
 // What a record of a tape asks, in words.
 use crate::digits::Digits;
 use crate::digits::DigitsDisplay;
-use apdu::Field;
 use exchange::FitOut;
 use sheet::Record;
 use std::fmt;
+use wire::Field;
 
 #[derive(Clone, Copy)]
 pub struct Asked<'a> {

@@ -1,10 +1,10 @@
 // What came of a record, in words, from the record of the sheet.
 use crate::digits::Digits;
 use crate::digits::DigitsDisplay;
-use apdu::Field;
-use apdu::Reader;
 use refusal::Refusal;
 use std::fmt;
+use wire::Field;
+use wire::Reader;
 
 #[derive(Clone, Copy)]
 pub struct Came<'a> {

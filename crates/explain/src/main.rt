@@ -3,7 +3,6 @@ mod asked;
 mod came;
 mod digits;
 
-use apdu::Reader;
 use asked::Asked;
 use asked::AskedDisplay;
 use came::Came;
@@ -13,6 +12,7 @@ use sheet::sheet;
 use std::error::AnyError;
 use std::io;
 use std::io::Read;
+use wire::Reader;
 
 // A sheet has one record for each record of its tape, up to where the run ends.
 fn explain(rt: &LibcRuntime, tape: &[u8], made: &[u8]) -> io::Result<()> {

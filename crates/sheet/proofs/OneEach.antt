@@ -16,7 +16,7 @@ use Rattle.std.specs.declared.result.Result.the-variants.{Ok, Err}
 use Rattle.refusal.specs.declared.Refusal.{Refusal}
 use Rattle.refusal.specs.declared.Refusal.the-variants.{Garbled}
 use Rattle.refusal.specs.Numbers.{refusal-number}
-use Rattle.apdu.specs.Fields.{Cut, next-field, is-nothing, field}
+use Rattle.wire.specs.Fields.{Cut, next-field, is-nothing, field}
 use Rattle.exchange.specs.declared.outcome.Done.{Done}
 use Rattle.exchange.specs.declared.outcome.Done.the-variants.{Quiet, Sent, Reported}
 use Rattle.exchange.specs.declared.service.Service.{Service}

@@ -12,7 +12,7 @@ use Rattle.std.proofs.shelf.Lists.{append-assoc}
 use Rattle.std.proofs.shelf.Tests.{cases-bool, leb-true}
 use Rattle.std.specs.declared.option.Option.{Option}
 use Rattle.std.specs.declared.option.Option.the-variants.{Some, None}
-use Rattle.apdu.specs.Fields.{Cut, cut, next-field, is-nothing}
+use Rattle.wire.specs.Fields.{Cut, cut, next-field, is-nothing}
 use Rattle.sheet.specs.Records.{Entry, read-entry}
 use Rattle.std.specs.declared.result.Result.{Result}
 use Rattle.refusal.specs.declared.Refusal.{Refusal}

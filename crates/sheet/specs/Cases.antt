@@ -2,7 +2,7 @@
 use mathlib.Core.Path.{_≡_}
 use mathlib.Core.List.{List, [], _∷_, _++_, map}
 use Prim.Native.Nat.{ℕ}
-use Rattle.apdu.specs.Fields.{field, two}
+use Rattle.wire.specs.Fields.{field, two}
 use Rattle.sheet.specs.Run.{sheet-of}
 
 pub record Case : Type 0 where

@@ -6,7 +6,7 @@ use Rattle.std.specs.declared.result.Result.{Result}
 use Rattle.std.specs.declared.result.Result.the-variants.{Ok, Err}
 use Rattle.refusal.specs.declared.Refusal.{Refusal}
 use Rattle.refusal.specs.Numbers.{refusal-number}
-use Rattle.apdu.specs.Fields.{field, two}
+use Rattle.wire.specs.Fields.{field, two}
 use Rattle.exchange.specs.declared.dialogue.OwnNumber.{OwnNumber}
 use Rattle.exchange.specs.declared.outcome.Done.{Done}
 use Rattle.exchange.specs.declared.outcome.Done.the-variants.{Quiet, Sent, Reported}

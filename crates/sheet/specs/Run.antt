@@ -9,7 +9,7 @@ use Rattle.std.specs.declared.result.Result.{Result}
 use Rattle.std.specs.declared.result.Result.the-variants.{Ok, Err}
 use Rattle.refusal.specs.declared.Refusal.{Refusal}
 use Rattle.refusal.specs.declared.Refusal.the-variants.{Garbled}
-use Rattle.apdu.specs.Fields.{Cut, next-field, is-nothing}
+use Rattle.wire.specs.Fields.{Cut, next-field, is-nothing}
 use Rattle.exchange.specs.declared.outcome.Done.the-variants.{Quiet}
 use Rattle.exchange.specs.declared.service.Service.{Service}
 use Rattle.sheet.specs.Records.{read-entry}

@@ -3,7 +3,7 @@ ghost use mathlib.Core.Path.{_≡_};
 ghost use mathlib.Core.List.{_∷_};
 ghost use Prim.Native.Nat.{_≤_};
 ghost use lib.ListN.{length, take};
-ghost use Rattle.apdu.specs.Fields.{field};
+ghost use Rattle.wire.specs.Fields.{field};
 ghost use Rattle.sheet.specs.Adds.{Adds};
 ghost use Rattle.sheet.specs.Lines.{report-record, sheet-record};
 use exchange::Cause;

@@ -1,5 +1,5 @@
 // The run of a whole tape.
-ghost use Rattle.apdu.specs.Fields.{unread};
+ghost use Rattle.wire.specs.Fields.{unread};
 ghost use Rattle.sheet.specs.Bench.{state-of};
 ghost use Rattle.sheet.specs.Cases.{Cases-stand};
 ghost use Rattle.refusal.specs.declared.Refusal.the-variants.{Garbled};
@@ -10,11 +10,11 @@ ghost use Rattle.sheet.specs.Run.{pieces-of, run-on, run-from, sheet-of};
 use crate::bench::Bench;
 use crate::lines::add_record;
 use crate::record::Record;
-use apdu::Reader;
 use exchange::Done;
 use exchange::Link;
 use refusal::Refusal;
 use std::alloc::AllocError;
+use wire::Reader;
 
 // A record that is cut.
 fn add_cut(sheet: &mut Vec<u8>) -> Result<(), AllocError>

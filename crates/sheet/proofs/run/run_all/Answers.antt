@@ -2,7 +2,7 @@ use mathlib.Core.Path.{sym, ap, subst, _∙_}
 use mathlib.Core.List.{List, [], _++_}
 use Prim.Native.Nat.{ℕ}
 use Rattle.std.specs.declared.result.Result.the-variants.{Ok, Err}
-use Rattle.apdu.specs.Fields.{next-field, unread, field}
+use Rattle.wire.specs.Fields.{next-field, unread, field}
 use Rattle.sheet.specs.Adds.{Adds}
 use Rattle.sheet.specs.Records.{view}
 use Rattle.sheet.specs.Bench.{State, state-of}

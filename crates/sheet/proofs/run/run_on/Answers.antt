@@ -5,7 +5,7 @@ use native.Mathlib.Omega.{arith}
 use Rattle.std.proofs.shelf.Lists.{append-assoc}
 use Rattle.std.specs.declared.result.Result.the-variants.{Ok, Err}
 use Rattle.refusal.specs.declared.Refusal.the-variants.{Garbled}
-use Rattle.apdu.specs.Fields.{unread}
+use Rattle.wire.specs.Fields.{unread}
 use Rattle.sheet.specs.Adds.{Adds}
 use Rattle.sheet.specs.Lines.{refusal-record, sheet-record}
 use Rattle.sheet.specs.Records.{view}

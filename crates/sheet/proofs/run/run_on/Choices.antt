@@ -4,7 +4,7 @@ use Prim.Native.Nat.{ℕ}
 use lib.ListN.{length}
 use Rattle.std.specs.declared.alloc.AllocError.{AllocError}
 use Rattle.std.specs.declared.result.Result.the-variants.{Ok}
-use Rattle.apdu.specs.Fields.{unread}
+use Rattle.wire.specs.Fields.{unread}
 use Rattle.sheet.specs.Adds.{Adds}
 use Rattle.sheet.specs.Bench.{state-of}
 use Rattle.sheet.specs.Run.{pieces-of, run-on}

@@ -6,7 +6,7 @@ use lib.Dec.{leb, eqb}
 use lib.ListN.{length, getD, take, drop}
 use Rattle.std.specs.declared.option.Option.{Option}
 use Rattle.std.specs.declared.option.Option.the-variants.{Some, None}
-use Rattle.apdu.specs.declared.fields.Reader.{Reader}
+use Rattle.wire.specs.declared.fields.Reader.{Reader}
 
 -- a field at the front of some bytes: its tag, its value, and what follows it
 pub record Cut : Type 0 where
@@ -20,6 +20,22 @@ cut t n bs = cond (leb n (length bs)) (Some (record { tag = t; value = take n bs
 -- the field at the front, if all of it is there
 abbrev pub next-field : List ℕ → Option Cut
 next-field bs = cond (leb 3 (length bs)) (cut (getD bs 0 0) (getD bs 1 0 * 256 + getD bs 2 0) (drop 3 bs)) None
+
+abbrev pub value-in : ℕ → Option Cut → Option (List ℕ)
+value-in t None = None
+value-in t (Some f) = cond (eqb (f .tag) t) (Some (f .value)) None
+
+abbrev pub rest-of : ℕ → List ℕ → Option Cut → List ℕ
+rest-of t bs None = bs
+rest-of t bs (Some f) = cond (eqb (f .tag) t) (f .rest) bs
+
+-- the value of the field with the tag t, if that field is at the front
+abbrev pub value : ℕ → List ℕ → Option (List ℕ)
+value t bs = value-in t (next-field bs)
+
+-- what follows that field; all of the bytes where it is not at the front
+abbrev pub after : ℕ → List ℕ → List ℕ
+after t bs = rest-of t bs (next-field bs)
 
 -- what a reader has not read yet
 abbrev pub unread : Reader → List ℕ

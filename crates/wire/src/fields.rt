@@ -1,8 +1,8 @@
 // A row of fields, each a tag, a length of two bytes and a value.
 ghost use mathlib.Core.Path.{_≡_};
-ghost use Rattle.std.specs.Options.{Cases};
+ghost use Rattle.std.specs.Options.{mapped, Cases};
 ghost use Rattle.std.specs.declared.option.Option.the-variants.{Some, None};
-ghost use Rattle.apdu.specs.Fields.{next-field, unread, is-nothing};
+ghost use Rattle.wire.specs.Fields.{next-field, value, after, unread, is-nothing};
 
 #[derive(Clone, Copy)]
 pub struct Field<'a> {
@@ -42,6 +42,21 @@ impl<'a> Reader<'a> {
             tag: head[0],
             value,
         })
+    }
+
+    // The value of the field with this tag, if it is the next one; the reader then stands behind it.
+    pub fn take(&mut self, tag: u8) -> Option<&'a [u8]>
+        ensures value { λ r. ⌜ mapped now r ≡ value tag (unread (now (self .entry))) ⌝ }
+        ensures after { λ _. ⌜ unread (now (self .exit)) ≡ after tag (unread (now (self .entry))) ⌝ }
+    {
+        let mut ahead = Reader { rest: self.rest };
+        match ahead.next() {
+            Some(field) if field.tag == tag => {
+                self.rest = ahead.rest;
+                Some(field.value)
+            }
+            _ => None,
+        }
     }
 
     pub fn is_done(&self) -> bool
