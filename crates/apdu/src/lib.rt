@@ -1,4 +1,6 @@
 // The wire format: APDUs, and how they are read and written.
+#![tactic(auto)]
+
 mod apdus;
 mod decode;
 mod tags;

@@ -1,4 +1,6 @@
 // Reading and writing APDUs from C.
+#![tactic(auto)]
+
 ghost use Rattle.std.specs.Prelude.{◌≡◌};
 ghost use Rattle.apdu.specs.Decode.{received_as};
 ghost use Rattle.apdu_c.specs.Calls.{read_status, read_fields, write_status, write_out, write_used};

@@ -3,7 +3,7 @@ ghost use Rattle.std.specs.List.{remove};
 ghost use Rattle.directory.specs.Contents.{contents, places, stored};
 ghost use Rattle.directory.specs.Found.{first_at, first_with};
 ghost use Rattle.directory.specs.Steps.{known, add_answer, add_list, remove_answer, remove_list};
-ghost use Rattle.directory.specs.Changes.{taken_out, Lasts};
+ghost use Rattle.directory.specs.Changes.{taken_out};
 
 use crate::keyed::{Blank, Keyed, first_with, lookup};
 use refusal::Refusal;
@@ -16,6 +16,15 @@ pub struct Directory<'a, R> {
 }
 
 impl<'a, R> Directory<'a, R> {
+    // An empty directory with the slice's places.
+    pub fn new(records: &'a mut [R]) -> Directory<'a, R>
+        ensures list { contents result ≡ [] }
+        ensures size { places result ≡ length records.old }
+        ensures whole { result ≡ record { records = records.entry; count = 0 } }
+    {
+        Directory { records, count: 0 }
+    }
+
     // The records in use, in the order in which they were added.
     pub fn used(&self) -> &[R]
         ensures { result.now ≡ contents self.now }
@@ -28,29 +37,17 @@ impl<'a, R> Directory<'a, R> {
     }
 }
 
-impl<'a, R: Keyed + Blank> Directory<'a, R> {
-    // An empty directory with the slice's places.
-    pub fn new(records: &'a mut [R]) -> Directory<'a, R>
-        ensures list { contents result ≡ [] }
-        ensures size { places result ≡ length records.old }
-        ensures whole { result ≡ record { records = records.entry; count = 0 } }
-        ensures lasts { Lasts keyed blanked result }
-    {
-        Directory { records, count: 0 }
-    }
-}
-
 impl<'a, R: Keyed> Directory<'a, R> {
     // The place of the first record with the key.
     pub fn find(&self, key: u64) -> Option<usize>
-        ensures value { result ≡ first_at nat_eq keyed (contents self.now) key }
+        ensures value { result ≡ first_at nat_eq R.keyed (contents self.now) key }
         ensures within { IfSome result (λ i. i < length (contents self.now)) }
     {
         lookup(self.used(), key)
     }
 
     pub fn contains(&self, key: u64) -> bool
-        ensures { result ≡ known nat_eq keyed (contents self.now) key }
+        ensures { result ≡ known nat_eq R.keyed (contents self.now) key }
     {
         self.find(key).is_some()
     }
@@ -59,7 +56,7 @@ impl<'a, R: Keyed> Directory<'a, R> {
 impl<'a, R: Keyed + Copy> Directory<'a, R> {
     // The first record with the key.
     pub fn get(&self, key: u64) -> Option<R>
-        ensures { result ≡ first_with nat_eq keyed (contents self.now) key }
+        ensures { result ≡ first_with nat_eq R.keyed (contents self.now) key }
     {
         let (_, item) = first_with(self.used(), key)?;
         Some(*item)
@@ -67,8 +64,8 @@ impl<'a, R: Keyed + Copy> Directory<'a, R> {
 
     // Adds a record at the end. It refuses a key that is there, then a directory that is full, and a refusal changes nothing.
     pub fn add(&mut self, item: R) -> Result<(), Refusal>
-        ensures answer { result ≡ add_answer nat_eq keyed (places self.old) (contents self.old) item }
-        ensures list { contents self.new ≡ add_list nat_eq keyed (places self.old) (contents self.old) item }
+        ensures answer { result ≡ add_answer nat_eq R.keyed (places self.old) (contents self.old) item }
+        ensures list { contents self.new ≡ add_list nat_eq R.keyed (places self.old) (contents self.old) item }
         ensures size { places self.new ≡ places self.old }
         ensures whole { self.new ≡ (if is_ok result then stored self.old item else self.old) }
     {
@@ -79,7 +76,7 @@ impl<'a, R: Keyed + Copy> Directory<'a, R> {
 
     // The answer to adding a record.
     fn may_add(&self, item: &R) -> Result<(), Refusal>
-        ensures { result ≡ add_answer nat_eq keyed (places self.now) (contents self.now) item.now }
+        ensures { result ≡ add_answer nat_eq R.keyed (places self.now) (contents self.now) item.now }
     {
         if self.contains(item.key()) {
             return Err(Refusal::Twice);
@@ -111,19 +108,17 @@ fn take_out<R: Copy>(places: &mut [R], at: usize, count: usize, blank: R)
 }
 
 impl<'a, R: Keyed + Blank + Copy> Directory<'a, R> {
-    // Removes the first record with the key, and frees its place. It refuses a key that is not there, and a refusal changes nothing.
-    pub fn remove(&mut self, key: u64) -> Result<(), Refusal>
-        ensures answer { result ≡ remove_answer nat_eq keyed (contents self.old) key }
-        ensures list { contents self.new ≡ remove_list nat_eq keyed (contents self.old) key }
+    // Removes the first record with the key, and frees its place. None where no record has the key, and then nothing changes.
+    pub fn remove(&mut self, key: u64) -> Option<()>
+        ensures answer { result ≡ remove_answer nat_eq R.keyed (contents self.old) key }
+        ensures list { contents self.new ≡ remove_list nat_eq R.keyed (contents self.old) key }
         ensures size { places self.new ≡ places self.old }
-        ensures whole { self.new ≡ taken_out keyed blanked self.old key }
+        ensures whole { self.new ≡ taken_out R.keyed R.blanked self.old key }
     {
-        let Some(place) = self.find(key) else {
-            return Err(Refusal::Stray);
-        };
+        let place = self.find(key)?;
         let count = self.used().len();
         take_out(self.records, place, count, R::blank());
         self.count = count - 1;
-        Ok(())
+        Some(())
     }
 }

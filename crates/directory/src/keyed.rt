@@ -19,15 +19,15 @@ pub trait Blank {
 }
 
 fn has_key<R: Keyed>(item: &R, key: u64) -> bool
-    ensures { result ≡ (keyed item.now == key) }
+    ensures { result ≡ (R.keyed item.now == key) }
 {
     item.key() == key
 }
 
 // The first record with the key, and before it its place.
 pub(crate) fn first_with<R: Keyed>(records: &[R], key: u64) -> Option<(usize, &R)>
-    ensures place { option_map (λ p. p.0) result ≡ first_at nat_eq keyed records.now key }
-    ensures item { option_map (λ p. p.1.now) result ≡ first_with nat_eq keyed records.now key }
+    ensures place { option_map (λ p. p.0) result ≡ first_at nat_eq R.keyed records.now key }
+    ensures item { option_map (λ p. p.1.now) result ≡ first_with nat_eq R.keyed records.now key }
     ensures within { IfSome result (λ p. p.0 < length records.now) }
 {
     for (i, item) in records.iter().enumerate() {
@@ -40,7 +40,7 @@ pub(crate) fn first_with<R: Keyed>(records: &[R], key: u64) -> Option<(usize, &R
 
 // The place of the first record with the key.
 pub fn lookup<R: Keyed>(records: &[R], key: u64) -> Option<usize>
-    ensures value { result ≡ first_at nat_eq keyed records.now key }
+    ensures value { result ≡ first_at nat_eq R.keyed records.now key }
     ensures within { IfSome result (λ i. i < length records.now) }
 {
     let (place, _) = first_with(records, key)?;

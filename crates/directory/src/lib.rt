@@ -1,4 +1,6 @@
 // A directory of records, each found by its key, in memory that the caller lends.
+#![tactic(auto)]
+
 mod directory;
 mod keyed;
 

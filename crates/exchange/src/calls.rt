@@ -60,7 +60,7 @@ impl Service {
         out: &mut [u8],
     ) -> Result<Done, Refusal>
         requires { Sound self.old }
-        ensures* value { λ r. ⌜ record { result = r; service = self.new; buffer = out.new } ≡ initiated self.old reading digits.now peer (contents links.now) out.old ⌝ }
+        ensures value { record { result = result; service = self.new; buffer = out.new } ≡ initiated self.old reading digits.now peer (contents links.now) out.old }
         ensures sound { Sound self.new }
     {
         self.check_ready(reading, out.len())?;
@@ -87,7 +87,7 @@ impl Service {
 
     fn look_at_clock(&mut self, reading: u64, out: &mut [u8]) -> Result<Done, Refusal>
         requires { Sound self.old }
-        ensures* value { λ r. ⌜ record { result = r; service = self.new; buffer = out.new } ≡ clocked self.old reading out.old ⌝ }
+        ensures value { record { result = result; service = self.new; buffer = out.new } ≡ clocked self.old reading out.old }
         ensures sound { Sound self.new }
     {
         self.check_time(reading, out.len())?;
@@ -118,7 +118,7 @@ impl Exchange {
         links: &Directory<'_, Link>,
         out: &mut [u8],
     ) -> Result<Done, Refusal>
-        ensures* value { λ r. ⌜ record { result = r; service = self.new.service; buffer = out.new } ≡ initiated self.old.service reading digits.now peer (contents links.now) out.old ⌝ }
+        ensures value { record { result = result; service = self.new.service; buffer = out.new } ≡ initiated self.old.service reading digits.now peer (contents links.now) out.old }
         ensures unchanged { Unchanged result self.old.service self.new.service out.old out.new }
     {
         self.service.initiate(reading, digits, peer, links, out)
@@ -126,7 +126,7 @@ impl Exchange {
 
     // Closes the dialogue whose timer ends first, if it has ended by this reading; else notes the reading.
     pub fn clock(&mut self, reading: u64, out: &mut [u8]) -> Result<Done, Refusal>
-        ensures* value { λ r. ⌜ record { result = r; service = self.new.service; buffer = out.new } ≡ clocked self.old.service reading out.old ⌝ }
+        ensures value { record { result = result; service = self.new.service; buffer = out.new } ≡ clocked self.old.service reading out.old }
         ensures unchanged { Unchanged result self.old.service self.new.service out.old out.new }
         ensures earliest { Earliest self.old.service reading result }
     {

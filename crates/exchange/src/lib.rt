@@ -1,4 +1,6 @@
 // The exchange: fit-out, entry into service, its dialogues and its calls.
+#![tactic(auto)]
+
 mod calls;
 mod dialogue;
 mod entry;

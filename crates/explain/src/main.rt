@@ -1,4 +1,6 @@
 // Reads a tape from standard input and says in words what each record asks and what comes of it.
+#![tactic(auto)]
+
 mod asked;
 mod came;
 mod digits;

@@ -1,4 +1,6 @@
 // Why a call is turned down. A refusal returns its number alone and changes nothing.
+#![tactic(auto)]
+
 ghost use Rattle.std.specs.Prelude.{◌≡◌};
 ghost use Rattle.refusal.specs.Numbers.{refusal_number, refusal_name, numbered};
 
@@ -11,12 +13,10 @@ pub enum Refusal {
     ClockBack,
     // The call is no clock call, and a timer ends at or before its reading.
     TimerDue,
-    // A bad user number, a peer that is not among the links, peer 0 for a link, or a place above 2 for a subscriber.
+    // A bad user number, a peer that is not among the links, or peer 0 for a link.
     Misdialled,
     // A tape record that is cut, unknown, of a wrong size, or a second fit-out; fields to write that are no APDU.
     Garbled,
-    // No record with this key is there to be removed.
-    Stray,
     // The directory has a record with this key.
     Twice,
     // No place is left for a dialogue or a record.
@@ -37,7 +37,6 @@ impl Refusal {
             Refusal::TimerDue => 3,
             Refusal::Misdialled => 4,
             Refusal::Garbled => 5,
-            Refusal::Stray => 6,
             Refusal::Twice => 7,
             Refusal::Full => 8,
             Refusal::Spent => 9,
@@ -55,7 +54,6 @@ impl Refusal {
             3 => Some(Refusal::TimerDue),
             4 => Some(Refusal::Misdialled),
             5 => Some(Refusal::Garbled),
-            6 => Some(Refusal::Stray),
             7 => Some(Refusal::Twice),
             8 => Some(Refusal::Full),
             9 => Some(Refusal::Spent),
@@ -73,7 +71,6 @@ impl Refusal {
             Refusal::TimerDue => "timer due",
             Refusal::Misdialled => "misdialled",
             Refusal::Garbled => "garbled",
-            Refusal::Stray => "stray",
             Refusal::Twice => "twice",
             Refusal::Full => "full",
             Refusal::Spent => "spent",

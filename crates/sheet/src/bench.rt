@@ -40,7 +40,7 @@ impl<'a> Bench<'a> {
 
     // Takes a record that follows.
     pub(crate) fn take(&mut self, entry: &Record<'_>, out: &mut [u8]) -> Result<Done, Refusal>
-        ensures* { λ r. ⌜ record { result = r; bench = state_of self.new; buffer = out.new } ≡ taken (state_of self.old) (view entry.now) out.old ⌝ }
+        ensures { record { result = result; bench = state_of self.new; buffer = out.new } ≡ taken (state_of self.old) (view entry.now) out.old }
     {
         match *entry {
             Record::FitOut(_) => Err(Refusal::Garbled),

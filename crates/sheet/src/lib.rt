@@ -1,4 +1,6 @@
 // A tape goes in, a sheet comes out.
+#![tactic(auto)]
+
 mod bench;
 mod lines;
 mod numbers;

@@ -1,4 +1,6 @@
 // Reads a tape from standard input and writes its sheet to standard output.
+#![tactic(auto)]
+
 use sheet::sheet;
 use std::alloc::Global;
 use std::io;

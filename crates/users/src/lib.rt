@@ -1,4 +1,6 @@
 // User numbers: 1 to 15 digits, leading zeros counted.
+#![tactic(auto)]
+
 ghost use Rattle.std.specs.Prelude.{◌≡◌, ◌+◌, ◌%◌, ◌^◌, ◌<◌, ◌≤◌, true, length, IfSome};
 ghost use Rattle.users.specs.Users.{number, digits, user_number, user_digits, is_user};
 ghost use Rattle.users.specs.Laws.{NoTwoWithOneKey, ZerosDiffer};

@@ -1,6 +1,8 @@
 // Reads strings from standard input, each as the value of a record (a tag, two bytes of length and the
 // string), and says of each on a line of its own what it is: an APDU, written back in hexadecimal; an
 // invoke that is due a reject; or garbled.
+#![tactic(auto)]
+
 mod verdict;
 
 use std::io::Read;

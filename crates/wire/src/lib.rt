@@ -1,4 +1,6 @@
 // Rows of fields, and the code lists of what stands in them.
+#![tactic(auto)]
+
 mod codes;
 mod fields;
 

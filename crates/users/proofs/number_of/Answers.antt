@@ -5,17 +5,17 @@ use Rattle.users.proofs.Digits.{number_more, number_none}
 use Rattle.users.proofs.Powers.{below_next, below_most}
 use Rattle.users.proofs.number_of.Goals as goal
 
-pub overflow-mul-n : goal.overflow-mul-n
-overflow-mul-n c = let k : c.loop-c.n < 10 ^ 15 = below_most 10 _ _ 15 (omega arith) c.loop-c.invariant.1 (omega arith) in search rules
+pub overflow_mul-n : goal.overflow_mul-n
+overflow_mul-n c = let k : c.loop-c.n < 10 ^ 15 = below_most 10 _ _ 15 (omega arith) c.loop-c.invariant.1 (omega arith) in search rules
 
-pub overflow-add-n : goal.overflow-add-n
-overflow-add-n c = let k : c.loop-c.n < 10 ^ 15 = below_most 10 _ _ 15 (omega arith) c.loop-c.invariant.1 (omega arith) in search rules
+pub overflow_add-n : goal.overflow_add-n
+overflow_add-n c = let k : c.loop-c.n < 10 ^ 15 = below_most 10 _ _ 15 (omega arith) c.loop-c.invariant.1 (omega arith) in search rules
 
-pub returns-in-default : goal.returns-in-default
-returns-in-default c = record { value = sym (number_none _ _ _ c.loop-c-test.true (inl (omega arith))) ∙ c.loop-c.invariant.0; bound = tt }
+pub returns-in_default : goal.returns-in_default
+returns-in_default c = record { value = sym (number_none _ _ _ c.loop-c-test.true (inl (omega arith))) ∙ c.loop-c.invariant.0; bound = tt }
 
-pub returns-in-default·2 : goal.returns-in-default·2
-returns-in-default·2 c = record { value = sym (number_none _ _ _ c.loop-c-test.true (inr (omega arith))) ∙ c.loop-c.invariant.0; bound = tt }
+pub returns-in_default-2 : goal.returns-in_default-2
+returns-in_default-2 c = record { value = sym (number_none _ _ _ c.loop-c-test.true (inr (omega arith))) ∙ c.loop-c.invariant.0; bound = tt }
 
 pub loop-c-preserved : goal.loop-c-preserved
 loop-c-preserved c = (sym (number_more _ _ _ c.loop-c-test.true (omega arith) (omega arith)) ∙ c.loop-c.invariant.0, below_next 10 _ _ _ c.loop-c.invariant.1 (omega arith))

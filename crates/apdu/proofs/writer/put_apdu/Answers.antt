@@ -5,5 +5,5 @@ use Rattle.apdu.proofs.writer.put_apdu.Goals as goal
 
 pub returns : goal.returns
 returns c =
-    let w = wrote_front (wrote_as (encode c.args.apdu.now) c.put-head-at.ensures c.put-body.ensures (search rules)) in
+    let w = wrote_front (wrote_as (encode c.args.apdu.now) c.put_head-at.ensures c.put_body.ensures (search rules)) in
     record { after = w.0; end = w.1 }

@@ -5,4 +5,4 @@ use Rattle.apdu.proofs.writer.put_pair.Goals as goal
 pub returns : goal.returns
 returns c =
     let n : length (c.args.first.now ++ c.args.second.now) ≡ length c.args.first.now + length c.args.second.now = length-append c.args.first.now c.args.second.now in
-    wrote_as _ c.put-bytes-at.ensures (wrote_then c.put-bytes-at-2.ensures c.put-bytes.ensures) (rw n)
+    wrote_as _ c.put_bytes-at.ensures (wrote_then c.put_bytes-at-2.ensures c.put_bytes.ensures) (rw n)

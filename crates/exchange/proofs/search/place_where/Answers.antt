@@ -3,8 +3,8 @@ use Rattle.std.proofs.Common.{arith}
 use Rattle.exchange.specs.Search.{place_from}
 use Rattle.exchange.proofs.search.place_where.Goals as goal
 
-pub returns-then-is-met : goal.returns-then-is-met
-returns-then-is-met g c =
+pub returns-then-is_met : goal.returns-then-is_met
+returns-then-is_met g c =
     let e = at_drop_more (place_from (g.P.Criterion.meets c.args.p.now) c.loop-i.i) c.args.xs.now c.loop-i.i c.index-xs-i.result c.loop-i-test.true in
     record { value = grind arith; within = omega arith }
 

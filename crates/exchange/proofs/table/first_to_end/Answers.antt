@@ -3,17 +3,17 @@ use Rattle.std.proofs.lemmas.List.{at_drop_more, at_drop_all}
 use Rattle.exchange.specs.Table.{soonest}
 use Rattle.exchange.proofs.Soonest.{Before, sooner_before, before_weaker}
 use Rattle.exchange.proofs.table.first_to_end.Goals as goal
-use Rattle.exchange.proofs.table.first_to_end.Goals.{then-is-met, else-is-met}
+use Rattle.exchange.proofs.table.first_to_end.Goals.{then-is_met, else-is_met}
 
 pub loop-i-preserved : goal.loop-i-preserved
 loop-i-preserved c =
     let e = at_drop_more (soonest c.args.reading c.loop-i.i c.loop-i.best) c.args.dialogues.now c.loop-i.i None c.loop-i-test.true in
-    elim c.if-is-met.branch [
-      | then-is-met w ↦
-          let t = w.if-is-met.ensures in
-          (grind arith, subst (Before (c.loop-i.i + 1)) (sym (w.best-is ∙ w.sooner-of-best.ensures)) (sooner_before c.loop-i.i _ c.loop-i.best c.loop-i.invariant.1))
-      | else-is-met w ↦
-          let t = w.if-is-met.ensures in
+    elim c.if-is_met.branch [
+      | then-is_met w ↦
+          let t = w.if-is_met.ensures in
+          (grind arith, subst (Before (c.loop-i.i + 1)) (sym (w.best-is ∙ w.sooner_of-best.ensures)) (sooner_before c.loop-i.i _ c.loop-i.best c.loop-i.invariant.1))
+      | else-is_met w ↦
+          let t = w.if-is_met.ensures in
           (grind arith, subst (Before (c.loop-i.i + 1)) (sym w.best-is) (before_weaker c.loop-i.i (c.loop-i.i + 1) c.loop-i.best (omega arith) c.loop-i.invariant.1))
     ]
 

@@ -4,11 +4,11 @@ use Rattle.sheet.specs.Records.{big_endian}
 use Rattle.users.proofs.Powers.{below_next, below_most}
 use Rattle.sheet.proofs.numbers.number.Goals as goal
 
-pub overflow-mul-n : goal.overflow-mul-n
-overflow-mul-n c = let k : c.loop-b.n < 256 ^ 7 = below_most 256 _ _ 7 (omega arith) c.loop-b.invariant.1 (omega arith) in search rules
+pub overflow_mul-n : goal.overflow_mul-n
+overflow_mul-n c = let k : c.loop-b.n < 256 ^ 7 = below_most 256 _ _ 7 (omega arith) c.loop-b.invariant.1 (omega arith) in search rules
 
-pub overflow-add-n : goal.overflow-add-n
-overflow-add-n c = let k : c.loop-b.n < 256 ^ 7 = below_most 256 _ _ 7 (omega arith) c.loop-b.invariant.1 (omega arith) in search rules
+pub overflow_add-n : goal.overflow_add-n
+overflow_add-n c = let k : c.loop-b.n < 256 ^ 7 = below_most 256 _ _ 7 (omega arith) c.loop-b.invariant.1 (omega arith) in search rules
 
 pub loop-b-preserved : goal.loop-b-preserved
 loop-b-preserved c = (sym (at_drop_more (big_endian c.loop-b.n) _ _ 0 c.loop-b-test.true) ∙ c.loop-b.invariant.0, below_next 256 _ _ _ c.loop-b.invariant.1 (omega arith))

@@ -4,7 +4,7 @@ use Rattle.exchange.proofs.in_service.Exchange.clock.Goals as goal
 
 pub returns : goal.returns
 returns c =
-    let value = c.look-at-clock.ensures.value in
+    let value = c.look_at_clock.ensures.value in
     record {
       value = value;
       unchanged = clocked_kept c.args.self.now.service c.args.reading c.args.out.now _ value;
