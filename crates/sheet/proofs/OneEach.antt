@@ -1,7 +1,7 @@
 -- One record of the sheet for each record of the tape. Assumes nothing.
 use Rattle.std.proofs.Common.{◌≡◌, ℕ, zero, suc, ◌+◌, ◌*◌, ◌/◌, ◌%◌, true, leb, List, [], ◌∷◌, ◌++◌, length, take, Some, None, Ok, Err, Result, sym, refl, ap, ◌∙◌, subst, arith, lit≤}
 use lib.Seq.{take-nil}
-use Rattle.std.specs.List.{AllByRecursion as All}
+use Rattle.std.specs.List.{AllByRecursion}
 use Rattle.std.proofs.lemmas.List.{take_at, drop_at, length-append}
 use Rattle.std.proofs.lemmas.Bool.{le-leb, cond_both}
 use Rattle.refusal.specs.declared.Refusal.{Refusal}
@@ -46,7 +46,7 @@ one_first bs rest o = ap (λ (xs : List ℕ). pieces_of (xs ++ rest)) o.is ∙ p
 
 -- what the law says of a run, which takes so many of some pieces
 record Row (ps : List Piece) (run : List Piece → List ℕ) (number : ℕ) : Type 0 where
-  kinds : All OfSheet (pieces_of (run ps))
+  kinds : AllByRecursion OfSheet (pieces_of (run ps))
   count : length (pieces_of (run ps)) ≡ number
   order : (n : ℕ) → take n (pieces_of (run ps)) ≡ pieces_of (run (take n ps))
 
@@ -67,7 +67,7 @@ more p ps run after number bs o start step r =
       | suc m ↦ ap (take (suc m)) (first ps) ∙ ap (λ (xs : List Piece). whole o.tag o.value ∷ xs) (r.order m) ∙ sym (first (take m ps))
     ] in
     record {
-      kinds = subst (All OfSheet) (sym (first ps)) (o.kind, r.kinds);
+      kinds = subst (AllByRecursion OfSheet) (sym (first ps)) (o.kind, r.kinds);
       count = ap length (first ps) ∙ ap suc r.count;
       order = order;
     }

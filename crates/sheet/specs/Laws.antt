@@ -1,6 +1,6 @@
 -- A sheet has one record for each record of its tape that the run takes, in order, and nothing else.
 use Rattle.std.specs.Prelude.{◌≡◌, ℕ, suc, ◌≤◌, List, [], ◌∷◌, length, take}
-use Rattle.std.specs.List.{AllByRecursion as All}
+use Rattle.std.specs.List.{AllByRecursion}
 use Rattle.exchange.specs.Service.{by}
 use Rattle.sheet.specs.Records.{read_entry}
 use Rattle.sheet.specs.Bench.{first_taken}
@@ -18,7 +18,7 @@ number_taken (cut_off ∷ ps) = 1
 number_taken (whole tag value ∷ ps) = by (first_taken (read_entry tag value)) (λ _. suc (length ps)) (λ _. 1)
 
 pub record OneEach (tape : List ℕ) : Type 0 where
-  pub kinds : All OfSheet (pieces_of (sheet_of tape))
+  pub kinds : AllByRecursion OfSheet (pieces_of (sheet_of tape))
   pub count : length (pieces_of (sheet_of tape)) ≡ number_taken (pieces_of tape)
   -- the first n records of the sheet are the sheet of the first n records of the tape
   pub order : (n : ℕ) → take n (pieces_of (sheet_of tape)) ≡ pieces_of (run_pieces (take n (pieces_of tape)))
