@@ -22,7 +22,6 @@ use Rattle.wire.specs.Fields.{value, after}
 use Rattle.apdu.specs.Grammar.{unit_value, session_value, auth_wtm_arg, wtat_param_arg, wtan_param_arg, auth_wtm_res, wtat_info, wtat_told, wtat_param_res, wtan_told, wtan_param_res, return_error, reject}
 use Rattle.apdu.specs.Laws.{IfAny, OfSize, UnitSized, SessionSized, AuthSized, WtatSized, WtanSized, InfoSized, WtatResSized, WtanResSized}
 use Rattle.apdu.specs.Tags as tag
-use Rattle.apdu.specs.Rows.{values}
 use Rattle.users.specs.Users.{user_number, user_digits, is_user}
 use Rattle.apdu.specs.Values.{bind, one, exact, unit_of, session_of, must, may, flag, flagged}
 use Rattle.apdu.proofs.Formats.{coded_back, one_back, exact_there, exact_back, unit_there, unit_back, session_there, session_back, must_back, may_there, may_back, flag_there, flag_back, either_back}

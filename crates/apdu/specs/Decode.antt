@@ -12,7 +12,6 @@ use Rattle.apdu.specs.declared.apdus.ReturnResult.{ReturnResult}
 use Rattle.apdu.specs.declared.apdus.ReturnResult.TheVariants as result
 use Rattle.apdu.specs.declared.apdus.Body.{Body}
 use Rattle.apdu.specs.declared.apdus.Body.TheVariants as body
-use Rattle.apdu.specs.declared.apdus.Apdu.{Apdu}
 use Rattle.apdu.specs.declared.apdus.Received.{Received}
 use Rattle.apdu.specs.declared.apdus.Received.TheVariants as received
 use Rattle.apdu.specs.Tags as tag

@@ -1,5 +1,5 @@
 -- Links.
-use Rattle.std.specs.Prelude.{ℕ, Bool, cond, List, Ok, Err, Result, ◌==◌, nat_eq}
+use Rattle.std.specs.Prelude.{ℕ, Bool, cond, List, Err, Result, ◌==◌, nat_eq}
 use Rattle.refusal.specs.declared.Refusal.{Refusal}
 use Rattle.refusal.specs.declared.Refusal.TheVariants.{Misdialled}
 use Rattle.directory.specs.Steps.{known, add_answer, add_list}

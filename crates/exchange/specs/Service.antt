@@ -1,9 +1,8 @@
 -- What an exchange in service keeps, and the checks that its calls share.
-use Rattle.std.specs.Prelude.{◌≡◌, ℕ, ◌+◌, ◌^◌, ◌≤◌, Bool, cond, ◌||◌, List, length, Some, None, Ok, Err, Option, Result, nat_lt, slice_set}
+use Rattle.std.specs.Prelude.{◌≡◌, ℕ, ◌+◌, ◌^◌, ◌≤◌, cond, ◌||◌, length, Some, None, Ok, Err, Option, Result, nat_lt, slice_set}
 use Rattle.refusal.specs.declared.Refusal.{Refusal}
 use Rattle.refusal.specs.declared.Refusal.TheVariants.{ShortSheet, ClockBack, TimerDue, Full, Spent}
 use Rattle.exchange.specs.declared.dialogue.State.{State}
-use Rattle.exchange.specs.declared.dialogue.Dialogue.{Dialogue}
 use Rattle.exchange.specs.declared.service.Service.{Service}
 use Rattle.exchange.specs.FitOut.{duration}
 use Rattle.exchange.specs.Dialogue.{timer_of}

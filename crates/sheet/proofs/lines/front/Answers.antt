@@ -1,4 +1,4 @@
-use Rattle.std.proofs.Common.{sym, arith, take_all, rules}
+use Rattle.std.proofs.Common.{sym, arith, take_all}
 use Rattle.sheet.proofs.lines.front.Goals as goal
 
 pub returns-then-size-buffer : goal.returns-then-size-buffer

@@ -1,8 +1,8 @@
-use Rattle.std.proofs.Common.{ℕ, List, [], ◌++◌, Ok, Err, sym, ap, ◌∙◌, subst}
+use Rattle.std.proofs.Common.{[], ◌++◌, Ok, Err, sym, ap, ◌∙◌, subst}
 use Rattle.wire.specs.Fields.{next_field, unread, field}
 use Rattle.sheet.specs.Adds.{Adds}
 use Rattle.sheet.specs.Records.{view}
-use Rattle.sheet.specs.Bench.{State, state_of}
+use Rattle.sheet.specs.Bench.{State}
 use Rattle.sheet.specs.Run.{pieces_of, run_on}
 use Rattle.sheet.proofs.Growth.{adds_then, adds_short}
 use Rattle.sheet.proofs.Pieces.{first}
