@@ -12,10 +12,12 @@ returns g c =
     let n : ℕ = c.args.count in
     let k : ℕ = n - i - 1 in
     let t : List R = set s i c.args.blank in
+    let turned : ℕ → List R = λ m. drop 1 (take m (drop i t)) ++ take 1 (take m (drop i t)) in
     let e : n ≡ i + suc k = omega arith in
     let w : n - i ≡ suc k = omega arith in
     let rest : drop (suc k) (drop i t) ≡ drop n t = drop-drop (suc k) i t ∙ ap (λ (m : ℕ). drop m t) (sym e) in
-    ap (put_mid i (n - i) t) c.rotate_left.ensures.after
-    ∙ ap (λ (m : ℕ). take i t ++ ((drop 1 (take m (drop i t)) ++ take 1 (take m (drop i t))) ++ drop m (drop i t))) w
-    ∙ ap (λ (l : List R). take i t ++ ((drop 1 (take (suc k) (drop i t)) ++ take 1 (take (suc k) (drop i t))) ++ l)) rest
+    let part : c.rotate_left.new.self ≡ turned (n - i) = cc in
+    ap (put_mid i (n - i) t) part
+    ∙ ap (λ (m : ℕ). take i t ++ (turned m ++ drop m (drop i t))) w
+    ∙ ap (λ (l : List R). take i t ++ (turned (suc k) ++ l)) rest
     ∙ closed_up s i n k c.args.blank e c.requires.within

@@ -1,9 +1,12 @@
-use Rattle.std.proofs.Common.{◌/◌, ◌%◌, ap, ◌∙◌}
+use Rattle.std.proofs.Common.{◌≡◌, ℕ, ◌/◌, ◌%◌, length, ap, ◌∙◌}
 use Rattle.users.specs.Users.{digits}
 use Rattle.users.proofs.Numbers.{length_digits}
 use Rattle.users.proofs.UserNumber.put.Goals as goal
 
-pub returns : goal.returns
-returns c =
-    let n = c.args.self.key % 1000000000000000 in
-    record { last = c.put_digits.ensures; all = λ h. c.put_digits.ensures ∙ ap (λ k. digits k n) (h ∙ length_digits (c.args.self.key / 1000000000000000) n) }
+pub returns-clause-all : goal.returns-clause-all
+returns-clause-all c =
+    λ h.
+    let n : ℕ = c.args.self.key % 1000000000000000 in
+    let k : ℕ = c.args.self.key / 1000000000000000 in
+    let same : digits (length c.args.places.now) n ≡ digits k n = ap (λ (j : ℕ). digits j n) (h ∙ length_digits k n) in
+    cc
