@@ -1,4 +1,5 @@
--- Lists of adding and removing, and what holds after each.
+-- Lists of adding and removing, and what is to hold after each. What one removal leaves (`taken_out`) is promised by
+-- contracts; `Lasts` is not yet: it is stated here, and neither proved nor named by a contract.
 use Rattle.std.specs.Prelude.{◌≡◌, ℕ, ◌<◌, ◌≤◌, true, false, cond, ◌⊎◌, List, [], ◌∷◌, length, is_ok, Ok, ◌≢◌, nat_eq, slice_index_or}
 use Rattle.directory.specs.declared.directory.Directory.{Directory}
 use Rattle.directory.specs.Contents.{contents, places, stored, without}
@@ -32,7 +33,7 @@ module _ {R : Type 0} (key : R → ℕ) where
     after d [] = d
     after d (c ∷ cs) = after (changed d c) cs
 
-    -- what holds of a directory d over memory that held the list lent
+    -- what is to hold of a directory d over memory that held the list lent
     pub record Lasting (lent : List R) (d : Directory R) : Type 0 where
       pub unique : NoKeyTwice (contents d)
       -- a free place holds the blank record, or what it held when it was lent
@@ -43,6 +44,6 @@ module _ {R : Type 0} (key : R → ℕ) where
       pub reused : (q : ℕ) (x : R) → known nat_eq key (contents d) q ≡ true → known nat_eq key (contents (taken_out d q)) (key x) ≡ false → add_answer nat_eq key (places d) (contents (taken_out d q)) x ≡ Ok tt
       pub size : places d ≡ length lent
 
-    -- it holds after every list of adding and removing
+    -- that it holds after every list of adding and removing: not proved
     abbrev pub Lasts : Directory R → Type 0
     Lasts d = (cs : List (Change R)) → Lasting d.records.now (after d cs)
