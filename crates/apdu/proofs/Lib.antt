@@ -4,6 +4,7 @@ pub mod Rows
 pub mod Shapes
 pub mod Formats
 pub mod Told
+pub mod Operations
 pub mod WrittenReadsBack
 pub mod ReadWritesBack
 pub mod Worked

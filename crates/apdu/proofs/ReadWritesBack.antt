@@ -1,99 +1,47 @@
 -- Every APDU that is read is right for the writer, and is written back as the same bytes. Assumes nothing.
-use Rattle.std.proofs.Common.{◌≡◌, ℕ, ◌+◌, ◌*◌, ◌/◌, ◌%◌, ◌<◌, true, ◌&&◌, eqb, leb, List, [], ◌∷◌, ◌++◌, length, get_or, Some, None, Option, sym, refl, ap, ◌∙◌, subst, arith}
-use Rattle.std.specs.Option.{option_map}
+use Rattle.std.proofs.Common.{◌≡◌, ℕ, ◌+◌, ◌*◌, ◌/◌, ◌%◌, ◌<◌, true, ◌&&◌, eqb, leb, List, [], ◌∷◌, ◌++◌, length, get_or, Some, None, Ok, Err, Option, Result, sym, refl, ap, ◌∙◌, subst, arith}
+use Rattle.std.specs.Option.{option_map, ok_or}
 use Rattle.std.proofs.lemmas.Bool.{eqb-true, and_parts, and_from}
 use Rattle.wire.specs.declared.codes.Kind.{Kind}
 use Rattle.wire.specs.declared.codes.Kind.TheVariants as kind
 use Rattle.wire.specs.declared.codes.Operation.{Operation}
-use Rattle.wire.specs.declared.codes.Operation.TheVariants as operation
-use Rattle.wire.specs.declared.codes.Problem.{Problem}
-use Rattle.apdu.specs.declared.apdus.Invoke.{Invoke}
-use Rattle.apdu.specs.declared.apdus.Invoke.TheVariants as invoke
-use Rattle.apdu.specs.declared.apdus.ReturnResult.{ReturnResult}
-use Rattle.apdu.specs.declared.apdus.ReturnResult.TheVariants as result
+use Rattle.wire.specs.declared.codes.Problem.TheVariants.{WrongArgument}
 use Rattle.apdu.specs.declared.apdus.Body.{Body}
 use Rattle.apdu.specs.declared.apdus.Body.TheVariants as body
 use Rattle.apdu.specs.declared.apdus.Apdu.{Apdu}
-use Rattle.apdu.specs.declared.apdus.Received.TheVariants as received
+use Rattle.apdu.specs.declared.apdus.NoApdu.TheVariants.{Garbled, RejectDue}
 use Rattle.wire.specs.Codes.{kind_of, kind_number, kinds, operation_of, operation_number, operations}
-use Rattle.apdu.specs.Decode.{argument, result_of, operation_in, or_reject, or_garbled, invoke_in, invoke_with, result_in, body_in, body_after, kind_in}
-use Rattle.apdu.specs.Encode.{operation_field, kind_of_body, invoke_operation, argument_bytes, result_operation, result_bytes, body_bytes, invoke_right, body_right, encode}
+use Rattle.apdu.specs.Decode.{argument, operation_in, invoke_in, invoke_with, result_in, result_map, body_in, body_after, with_id, kind_in}
+use Rattle.apdu.specs.Encode.{operation_field, kind_of_body, argument_bytes, result_bytes, body_bytes, body_right, encode}
+use Rattle.apdu.specs.Operations.{Invoke, ReturnResult, operation_with}
 use Rattle.wire.specs.Fields.{value, after, field, two}
-use Rattle.apdu.specs.Grammar.{auth_wtm_arg, wtat_param_arg, wtan_param_arg, auth_wtm_res, wtat_param_res, wtan_param_res, return_error, reject}
-use Rattle.apdu.specs.Laws.{Bytes, AuthSized, WtatSized, WtanSized, WtatResSized, WtanResSized, InvokeSized, ResultSized, BodySized, ReadWritesBack}
+use Rattle.apdu.specs.Grammar.{arguments, results, return_error, reject}
+use Rattle.apdu.specs.Laws.{Bytes, AuthSized, WtatSized, WtanSized, WtatResSized, WtanResSized, AnySize, BodySized, ReadWritesBack}
 use Rattle.apdu.specs.Tags as tag
-use Rattle.apdu.specs.Rows.{wire, Shape, shaped, shape_bytes}
+use Rattle.apdu.specs.Rows.{wire, shaped}
 use Rattle.apdu.specs.Values.{bind, one, id_in, must}
 use Rattle.apdu.proofs.Formats.{coded_back, one_back, must_back}
 use Rattle.users.proofs.Options.{none_some}
-use Rattle.apdu.proofs.Options.{cond_some, bind_back, mapped_back}
+use Rattle.apdu.proofs.Options.{cond_some, bind_back, mapped_back, err_ok, ok_same, ok_or_back}
 use Rattle.apdu.proofs.Rows.{field_back, bytes_after}
-use Rattle.apdu.proofs.Shapes.{Lawful, shape_back}
-use Rattle.apdu.proofs.Told.{NoMore, auth_lawful, wtat_lawful, wtan_lawful, verdict_lawful, wtat_res_lawful, wtan_res_lawful, error_lawful, reject_lawful}
+use Rattle.apdu.proofs.Shapes.{shape_back}
+use Rattle.apdu.proofs.Told.{error_lawful, reject_lawful}
+use Rattle.apdu.proofs.Operations.{arguments_lawful, results_lawful, said_back}
 
-garbled_apdu : (a : Apdu) → received.Garbled ≡ received.Apdu a → ⊥
-garbled_apdu a e = let z : ◌≡◌ {A = ℕ} 0 1 = cc in omega arith
-
-reject_apdu : (i : ℕ) (p : Problem) (a : Apdu) → received.RejectDue i p ≡ received.Apdu a → ⊥
-reject_apdu i p a e = let z : ◌≡◌ {A = ℕ} 0 1 = cc in omega arith
-
--- what follows the operation
-
-pub record Argument (o : Operation) (bs : List ℕ) (i : Invoke) : Type 0 where
-  pub operation : invoke_operation i ≡ o
-  pub bytes : argument_bytes i ≡ bs
-  pub right : invoke_right i ≡ true
-  pub sized : InvokeSized i
-
--- an argument of one shape, as the invoke that has it
-argument_by :
-    {B : Type 0} (s : Shape B) (Z : B → Type 0) → Lawful s Z → (o : Operation) (make : B → Invoke) →
-    ((x : B) → invoke_operation (make x) ≡ o) → ((x : B) → argument_bytes (make x) ≡ shape_bytes s x) → ((x : B) → s.right x ≡ true → invoke_right (make x) ≡ true) → ((x : B) → Z x → InvokeSized (make x)) →
-    (bs : List ℕ) (i : Invoke) → Bytes bs → option_map make (shaped s bs) ≡ Some i → Argument o bs i
-argument_by s Z l o make op by rt sz bs i b e =
-    let p = mapped_back make (shaped s bs) i e in
-    let q = shape_back s Z l bs p.0 b p.1.0 in
-    subst (Argument o bs) p.1.1 (record { operation = op p.0; bytes = by p.0 ∙ q.0; right = rt p.0 q.1.0; sized = sz p.0 q.1.1 })
-
-argument_back : (o : Operation) (bs : List ℕ) (i : Invoke) → Bytes bs → argument o bs ≡ Some i → Argument o bs i
-argument_back operation.AuthWtmUser bs i b e = argument_by auth_wtm_arg AuthSized auth_lawful operation.AuthWtmUser invoke.AuthWtmUser (λ x. refl) (λ x. refl) (λ x h. h) (λ x z. z) bs i b e
-argument_back operation.GetWtatParam bs i b e = argument_by wtat_param_arg WtatSized wtat_lawful operation.GetWtatParam invoke.GetWtatParam (λ x. refl) (λ x. refl) (λ x h. h) (λ x z. z) bs i b e
-argument_back operation.WtatParamEnq bs i b e = argument_by wtat_param_arg WtatSized wtat_lawful operation.WtatParamEnq invoke.WtatParamEnq (λ x. refl) (λ x. refl) (λ x h. h) (λ x z. z) bs i b e
-argument_back operation.GetWtanParam bs i b e = argument_by wtan_param_arg WtanSized wtan_lawful operation.GetWtanParam invoke.GetWtanParam (λ x. refl) (λ x. refl) (λ x h. h) (λ x z. z) bs i b e
-argument_back operation.WtanParamEnq bs i b e = argument_by wtan_param_arg WtanSized wtan_lawful operation.WtanParamEnq invoke.WtanParamEnq (λ x. refl) (λ x. refl) (λ x h. h) (λ x z. z) bs i b e
-
-pub record Gives (o : Operation) (bs : List ℕ) (r : ReturnResult) : Type 0 where
-  pub operation : result_operation r ≡ o
-  pub bytes : result_bytes r ≡ bs
-  pub sized : ResultSized r
-
-result_by :
-    {B : Type 0} (s : Shape B) (Z : B → Type 0) → Lawful s Z → (o : Operation) (make : B → ReturnResult) →
-    ((x : B) → result_operation (make x) ≡ o) → ((x : B) → result_bytes (make x) ≡ shape_bytes s x) → ((x : B) → Z x → ResultSized (make x)) →
-    (bs : List ℕ) (r : ReturnResult) → Bytes bs → option_map make (shaped s bs) ≡ Some r → Gives o bs r
-result_by s Z l o make op by sz bs r b e =
-    let p = mapped_back make (shaped s bs) r e in
-    let q = shape_back s Z l bs p.0 b p.1.0 in
-    subst (Gives o bs) p.1.1 (record { operation = op p.0; bytes = by p.0 ∙ q.0; sized = sz p.0 q.1.1 })
-
-result_back : (o : Operation) (bs : List ℕ) (r : ReturnResult) → Bytes bs → result_of o bs ≡ Some r → Gives o bs r
-result_back operation.AuthWtmUser bs r b e = result_by auth_wtm_res NoMore verdict_lawful operation.AuthWtmUser result.AuthWtmUser (λ x. refl) (λ x. refl) (λ x z. tt) bs r b e
-result_back operation.GetWtatParam bs r b e = result_by wtat_param_res WtatResSized wtat_res_lawful operation.GetWtatParam result.GetWtatParam (λ x. refl) (λ x. refl) (λ x z. z) bs r b e
-result_back operation.WtatParamEnq bs r b e = result_by wtat_param_res WtatResSized wtat_res_lawful operation.WtatParamEnq result.WtatParamEnq (λ x. refl) (λ x. refl) (λ x z. z) bs r b e
-result_back operation.GetWtanParam bs r b e = result_by wtan_param_res WtanResSized wtan_res_lawful operation.GetWtanParam result.GetWtanParam (λ x. refl) (λ x. refl) (λ x z. z) bs r b e
-result_back operation.WtanParamEnq bs r b e = result_by wtan_param_res WtanResSized wtan_res_lawful operation.WtanParamEnq result.WtanParamEnq (λ x. refl) (λ x. refl) (λ x z. z) bs r b e
+ok_back : {A B E : Type 0} (f : A → B) (r : Result A E) (y : B) → result_map f r ≡ Ok y → (x : A) × ((r ≡ Ok x) × (f x ≡ y))
+ok_back f (Err e) y h = absurd (err_ok e y h)
+ok_back f (Ok x) y h = (x, (refl, ok_same (f x) y h))
 
 -- what follows the invoke id
 
-pub record Follows (k : Kind) (i : ℕ) (bs : List ℕ) (a : Apdu) : Type 0 where
-  pub kind : kind_of_body a.body ≡ k
-  pub id : a.id ≡ i
-  pub bytes : body_bytes a.body ≡ bs
-  pub right : body_right a.body ≡ true
-  pub sized : BodySized a.body
+pub record Follows (k : Kind) (bs : List ℕ) (b : Body) : Type 0 where
+  pub kind : kind_of_body b ≡ k
+  pub bytes : body_bytes b ≡ bs
+  pub right : body_right b ≡ true
+  pub sized : BodySized b
 
 byte_in : (o : Option (List ℕ)) (n : ℕ) → must one o ≡ Some n → Some (n ∷ []) ≡ o
-byte_in o n e = (must_back one (λ m. m ∷ []) NoMore (λ v x h. (one_back v x h, tt)) o n e).0
+byte_in o n e = (must_back one (λ m. m ∷ []) AnySize (λ v x h. (one_back v x h, tt)) o n e).0
 
 -- the operation stands in front
 operation_back : (bs : List ℕ) (n : ℕ) (o : Operation) → Bytes bs → operation_in bs ≡ Some n → operation_of n ≡ Some o → operation_field o ++ after tag.operation bs ≡ bs
@@ -102,47 +50,39 @@ operation_back bs n o b e f =
     let v = byte_in (value tag.operation bs) n e in
     (λ t. field tag.operation (c t ∷ []) ++ after tag.operation bs) ∙ (λ t. wire tag.operation (v t) ++ after tag.operation bs) ∙ field_back tag.operation bs b
 
-or_reject_back : (i : ℕ) (x : Option Invoke) (a : Apdu) → or_reject i x ≡ received.Apdu a → (y : Invoke) × ((x ≡ Some y) × (record { id = i; body = body.Invoke y } ≡ a))
-or_reject_back i None a e = absurd (reject_apdu _ _ a e)
-or_reject_back i (Some y) a e = (y, (refl, cc))
+invoke_with_back : (i : ℕ) (o : Option Operation) (bs : List ℕ) (y : Invoke) → invoke_with i o bs ≡ Ok y → (p : Operation) × ((o ≡ Some p) × (argument p bs ≡ Some y))
+invoke_with_back i None bs y e = absurd (err_ok _ y e)
+invoke_with_back i (Some p) bs y e = (p, (refl, ok_or_back (argument p bs) (RejectDue i WrongArgument) y e))
 
-invoke_with_back : (i : ℕ) (o : Option Operation) (bs : List ℕ) (a : Apdu) → invoke_with i o bs ≡ received.Apdu a → (p : Operation) × ((y : Invoke) × ((o ≡ Some p) × ((argument p bs ≡ Some y) × (record { id = i; body = body.Invoke y } ≡ a))))
-invoke_with_back i None bs a e = absurd (reject_apdu _ _ a e)
-invoke_with_back i (Some p) bs a e = let q = or_reject_back i (argument p bs) a e in (p, (q.0, (refl, q.1)))
+invoke_back : (i : ℕ) (n : Option ℕ) (bs : List ℕ) (y : Invoke) → Bytes bs → operation_in bs ≡ n → invoke_in i n (after tag.operation bs) ≡ Ok y → Follows kind.Invoke bs (body.Invoke y)
+invoke_back i None bs y b h e = absurd (err_ok _ y e)
+invoke_back i (Some n) bs y b h e =
+    let p = invoke_with_back i (operation_of n) (after tag.operation bs) y e in
+    let q = said_back arguments AuthSized WtatSized WtanSized arguments_lawful p.0 (after tag.operation bs) y (bytes_after tag.operation bs b) p.1.1 in
+    let whole : operation_field (operation_with y) ++ argument_bytes y ≡ bs = (λ t. operation_field (q.operation t) ++ q.bytes t) ∙ operation_back bs n p.0 b h p.1.0 in
+    record { kind = refl; bytes = whole; right = q.right; sized = q.sized }
 
-invoke_back : (i : ℕ) (n : Option ℕ) (bs : List ℕ) (a : Apdu) → Bytes bs → operation_in bs ≡ n → invoke_in i n (after tag.operation bs) ≡ received.Apdu a → Follows kind.Invoke i bs a
-invoke_back i None bs a b h e = absurd (garbled_apdu a e)
-invoke_back i (Some n) bs a b h e =
-    let p = invoke_with_back i (operation_of n) (after tag.operation bs) a e in
-    let y : Invoke = p.1.0 in
-    let q = argument_back p.0 (after tag.operation bs) y (bytes_after tag.operation bs b) p.1.1.1.0 in
-    let whole : operation_field (invoke_operation y) ++ argument_bytes y ≡ bs = (λ t. operation_field (q.operation t) ++ q.bytes t) ∙ operation_back bs n p.0 b h p.1.1.0 in
-    subst (Follows kind.Invoke i bs) p.1.1.1.1 (record { kind = refl; id = refl; bytes = whole; right = q.right; sized = q.sized })
+-- an answer, as the body that it makes
+answer_by : {B : Type 0} (make : B → Body) (k : Kind) (bs : List ℕ) (y : Body) (o : Option B) → ((x : B) → o ≡ Some x → Follows k bs (make x)) → ok_or (option_map make o) Garbled ≡ Ok y → Follows k bs y
+answer_by make k bs y o f e =
+    let q = mapped_back make o y (ok_or_back (option_map make o) Garbled y e) in
+    subst (Follows k bs) q.1.1 (f q.0 q.1.0)
 
-or_garbled_back : (i : ℕ) (x : Option Body) (a : Apdu) → or_garbled i x ≡ received.Apdu a → (y : Body) × ((x ≡ Some y) × (record { id = i; body = y } ≡ a))
-or_garbled_back i None a e = absurd (garbled_apdu a e)
-or_garbled_back i (Some y) a e = (y, (refl, cc))
-
--- an answer, as the APDU that it makes
-answer_by : {B : Type 0} (make : B → Body) (k : Kind) (i : ℕ) (bs : List ℕ) (a : Apdu) (o : Option B) → ((x : B) → o ≡ Some x → Follows k i bs (record { id = i; body = make x })) → or_garbled i (option_map make o) ≡ received.Apdu a → Follows k i bs a
-answer_by make k i bs a o f e =
-    let p = or_garbled_back i (option_map make o) a e in
-    let q = mapped_back make o p.0 p.1.0 in
-    subst (Follows k i bs) p.1.1 (subst (λ (y : Body). Follows k i bs (record { id = i; body = y })) q.1.1 (f q.0 q.1.0))
-
-return_result_back : (i : ℕ) (bs : List ℕ) → Bytes bs → (r : ReturnResult) → result_in bs ≡ Some r → Follows kind.ReturnResult i bs (record { id = i; body = body.ReturnResult r })
-return_result_back i bs b r e =
+return_result_back : (bs : List ℕ) → Bytes bs → (r : ReturnResult) → result_in bs ≡ Some r → Follows kind.ReturnResult bs (body.ReturnResult r)
+return_result_back bs b r e =
     let p = bind_back (bind (operation_in bs) operation_of) _ r e in
     let q = bind_back (operation_in bs) operation_of p.0 p.1.0 in
-    let g = result_back p.0 (after tag.operation bs) r (bytes_after tag.operation bs b) p.1.1 in
-    let whole : operation_field (result_operation r) ++ result_bytes r ≡ bs = (λ t. operation_field (g.operation t) ++ g.bytes t) ∙ operation_back bs q.0 p.0 b q.1.0 q.1.1 in
-    record { kind = refl; id = refl; bytes = whole; right = refl; sized = g.sized }
+    let g = said_back results AnySize WtatResSized WtanResSized results_lawful p.0 (after tag.operation bs) r (bytes_after tag.operation bs b) p.1.1 in
+    let whole : operation_field (operation_with r) ++ result_bytes r ≡ bs = (λ t. operation_field (g.operation t) ++ g.bytes t) ∙ operation_back bs q.0 p.0 b q.1.0 q.1.1 in
+    record { kind = refl; bytes = whole; right = refl; sized = g.sized }
 
-body_back : (k : Kind) (i : ℕ) (bs : List ℕ) (a : Apdu) → Bytes bs → body_in k i bs ≡ received.Apdu a → Follows k i bs a
-body_back kind.Invoke i bs a b e = invoke_back i (operation_in bs) bs a b refl e
-body_back kind.ReturnResult i bs a b e = answer_by body.ReturnResult kind.ReturnResult i bs a (result_in bs) (return_result_back i bs b) e
-body_back kind.ReturnError i bs a b e = answer_by body.ReturnError kind.ReturnError i bs a (shaped return_error bs) (λ x h. record { kind = refl; id = refl; bytes = (shape_back return_error NoMore error_lawful bs x b h).0; right = refl; sized = tt }) e
-body_back kind.Reject i bs a b e = answer_by body.Reject kind.Reject i bs a (shaped reject bs) (λ x h. record { kind = refl; id = refl; bytes = (shape_back reject NoMore reject_lawful bs x b h).0; right = refl; sized = tt }) e
+body_back : (k : Kind) (i : ℕ) (bs : List ℕ) (y : Body) → Bytes bs → body_in k i bs ≡ Ok y → Follows k bs y
+body_back kind.Invoke i bs y b e =
+    let p = ok_back body.Invoke (invoke_in i (operation_in bs) (after tag.operation bs)) y e in
+    subst (Follows kind.Invoke bs) p.1.1 (invoke_back i (operation_in bs) bs p.0 b refl p.1.0)
+body_back kind.ReturnResult i bs y b e = answer_by body.ReturnResult kind.ReturnResult bs y (result_in bs) (return_result_back bs b) e
+body_back kind.ReturnError i bs y b e = answer_by body.ReturnError kind.ReturnError bs y (shaped return_error bs) (λ x h. record { kind = refl; bytes = (shape_back return_error AnySize error_lawful bs x b h).0; right = refl; sized = tt }) e
+body_back kind.Reject i bs y b e = answer_by body.Reject kind.Reject bs y (shaped reject bs) (λ x h. record { kind = refl; bytes = (shape_back reject AnySize reject_lawful bs x b h).0; right = refl; sized = tt }) e
 
 -- the kind and the invoke id
 
@@ -172,10 +112,13 @@ record Head (k : Option Kind) (i : Option ℕ) (bs : List ℕ) (a : Apdu) : Type
   right : body_right a.body ≡ true
   sized : BodySized a.body
 
-head_back : (k : Option Kind) (i : Option ℕ) (bs : List ℕ) (a : Apdu) → Bytes bs → body_after k i bs ≡ received.Apdu a → Head k i bs a
-head_back None i bs a b e = absurd (garbled_apdu a e)
-head_back (Some k) None bs a b e = absurd (garbled_apdu a e)
-head_back (Some k) (Some i) bs a b e = let f = body_back k i bs a b e in record { kind = ap Some (sym f.kind); id = ap Some (sym f.id); bytes = f.bytes; right = f.right; sized = f.sized }
+head_back : (k : Option Kind) (i : Option ℕ) (bs : List ℕ) (a : Apdu) → Bytes bs → body_after k i bs ≡ Ok a → Head k i bs a
+head_back None i bs a b e = absurd (err_ok _ a e)
+head_back (Some k) None bs a b e = absurd (err_ok _ a e)
+head_back (Some k) (Some i) bs a b e =
+    let p = ok_back (with_id i) (body_in k i bs) a e in
+    let f = body_back k i bs p.0 b p.1.0 in
+    subst (Head (Some k) (Some i) bs) p.1.1 (record { kind = ap Some (sym f.kind); id = refl; bytes = f.bytes; right = f.right; sized = f.sized })
 
 pub read_writes_back : ReadWritesBack
 read_writes_back bs a b e =

@@ -20,7 +20,7 @@ use Rattle.apdu.specs.declared.apdus.WtanParamRes.TheVariants as wtan
 use Rattle.wire.specs.Codes.{verdict_of, verdict_number, verdicts, error_of, error_number, error_codes}
 use Rattle.wire.specs.Fields.{value, after}
 use Rattle.apdu.specs.Grammar.{unit_value, session_value, auth_wtm_arg, wtat_param_arg, wtan_param_arg, auth_wtm_res, wtat_info, wtat_told, wtat_param_res, wtan_told, wtan_param_res, return_error, reject}
-use Rattle.apdu.specs.Laws.{IfAny, OfSize, UnitSized, SessionSized, AuthSized, WtatSized, WtanSized, InfoSized, WtatResSized, WtanResSized}
+use Rattle.apdu.specs.Laws.{IfAny, OfSize, UnitSized, SessionSized, AuthSized, WtatSized, WtanSized, InfoSized, WtatResSized, WtanResSized, AnySize}
 use Rattle.apdu.specs.Tags as tag
 use Rattle.users.specs.Users.{user_number, user_digits, is_user}
 use Rattle.apdu.specs.Values.{bind, one, exact, unit_of, session_of, must, may, flag, flagged}
@@ -30,9 +30,6 @@ use Rattle.users.proofs.Options.{some_same}
 use Rattle.apdu.proofs.Options.{bind_back, mapped_back}
 use Rattle.apdu.proofs.Rows.{Short, Fills}
 use Rattle.apdu.proofs.Shapes.{Lawful}
-
-abbrev pub NoMore : {A : Type 0} → A → Type 0
-NoMore x = Unit {0}
 
 -- sizes that two bytes can tell
 
@@ -63,7 +60,7 @@ user_in : (o : Option (List ℕ)) (u : UserNumber) → must user_number o ≡ So
 user_in = must_back user_number user_digits (λ u. is_user u ≡ true) user_back
 
 byte_in : (o : Option (List ℕ)) (n : ℕ) → must one o ≡ Some n → Some (n ∷ []) ≡ o
-byte_in o n e = (must_back one (λ n. n ∷ []) NoMore (λ v x h. (one_back v x h, tt)) o n e).0
+byte_in o n e = (must_back one (λ n. n ∷ []) AnySize (λ v x h. (one_back v x h, tt)) o n e).0
 
 challenge_if_there : (o : Option (List ℕ)) → IfAny (OfSize tag.challenge_size) o → may (exact tag.challenge_size) o ≡ Some o
 challenge_if_there None z = refl
@@ -157,7 +154,7 @@ code_back number of b o x e =
     let q = byte_in o p.0 p.1.0 in
     (λ i. Some (b p.0 x p.1.1 i ∷ []) ∷ []) ∙ (λ i. q i ∷ [])
 
-pub verdict_lawful : Lawful auth_wtm_res NoMore
+pub verdict_lawful : Lawful auth_wtm_res AnySize
 verdict_lawful =
     record {
       rising = omega arith;
@@ -166,7 +163,7 @@ verdict_lawful =
       back = λ bs x e. (code_back verdict_number verdict_of (coded_back verdict_number verdicts) (value tag.verdict bs) x e, (refl, tt));
     }
 
-pub error_lawful : Lawful return_error NoMore
+pub error_lawful : Lawful return_error AnySize
 error_lawful =
     record {
       rising = omega arith;
@@ -175,7 +172,7 @@ error_lawful =
       back = λ bs x e. (code_back error_number error_of (coded_back error_number error_codes) (value tag.error bs) x e, (refl, tt));
     }
 
-pub reject_lawful : Lawful reject NoMore
+pub reject_lawful : Lawful reject AnySize
 reject_lawful =
     record {
       rising = omega arith;

@@ -5,11 +5,6 @@ use Rattle.refusal.specs.declared.Refusal.TheVariants.{ShortSheet, Garbled}
 use Rattle.wire.specs.declared.codes.Kind.{Kind}
 use Rattle.wire.specs.declared.codes.Kind.TheVariants as kind
 use Rattle.wire.specs.declared.codes.Operation.{Operation}
-use Rattle.wire.specs.declared.codes.Operation.TheVariants as operation
-use Rattle.apdu.specs.declared.apdus.Invoke.{Invoke}
-use Rattle.apdu.specs.declared.apdus.Invoke.TheVariants as invoke
-use Rattle.apdu.specs.declared.apdus.ReturnResult.{ReturnResult}
-use Rattle.apdu.specs.declared.apdus.ReturnResult.TheVariants as result
 use Rattle.apdu.specs.declared.apdus.Body.{Body}
 use Rattle.apdu.specs.declared.apdus.Body.TheVariants as body
 use Rattle.apdu.specs.declared.apdus.Apdu.{Apdu}
@@ -17,7 +12,8 @@ use Rattle.apdu.specs.Tags as tag
 use Rattle.wire.specs.Codes.{kind_number, operation_number}
 use Rattle.wire.specs.Fields.{field, two}
 use Rattle.apdu.specs.Fronts.{front}
-use Rattle.apdu.specs.Grammar.{auth_wtm_arg, wtat_param_arg, wtan_param_arg, auth_wtm_res, wtat_param_res, wtan_param_res, return_error, reject}
+use Rattle.apdu.specs.Grammar.{arguments, results, return_error, reject}
+use Rattle.apdu.specs.Operations.{Invoke, ReturnResult, operation_with, bytes_with, right_with}
 use Rattle.apdu.specs.Rows.{shape_bytes}
 
 -- the kind and the invoke id
@@ -34,38 +30,16 @@ kind_of_body (body.ReturnResult r) = kind.ReturnResult
 kind_of_body (body.ReturnError e) = kind.ReturnError
 kind_of_body (body.Reject p) = kind.Reject
 
-abbrev pub invoke_operation : Invoke → Operation
-invoke_operation (invoke.AuthWtmUser a) = operation.AuthWtmUser
-invoke_operation (invoke.GetWtatParam a) = operation.GetWtatParam
-invoke_operation (invoke.WtatParamEnq a) = operation.WtatParamEnq
-invoke_operation (invoke.GetWtanParam a) = operation.GetWtanParam
-invoke_operation (invoke.WtanParamEnq a) = operation.WtanParamEnq
-
 abbrev pub argument_bytes : Invoke → List ℕ
-argument_bytes (invoke.AuthWtmUser a) = shape_bytes auth_wtm_arg a
-argument_bytes (invoke.GetWtatParam a) = shape_bytes wtat_param_arg a
-argument_bytes (invoke.WtatParamEnq a) = shape_bytes wtat_param_arg a
-argument_bytes (invoke.GetWtanParam a) = shape_bytes wtan_param_arg a
-argument_bytes (invoke.WtanParamEnq a) = shape_bytes wtan_param_arg a
-
-abbrev pub result_operation : ReturnResult → Operation
-result_operation (result.AuthWtmUser r) = operation.AuthWtmUser
-result_operation (result.GetWtatParam r) = operation.GetWtatParam
-result_operation (result.WtatParamEnq r) = operation.WtatParamEnq
-result_operation (result.GetWtanParam r) = operation.GetWtanParam
-result_operation (result.WtanParamEnq r) = operation.WtanParamEnq
+argument_bytes i = bytes_with arguments i
 
 abbrev pub result_bytes : ReturnResult → List ℕ
-result_bytes (result.AuthWtmUser r) = shape_bytes auth_wtm_res r
-result_bytes (result.GetWtatParam r) = shape_bytes wtat_param_res r
-result_bytes (result.WtatParamEnq r) = shape_bytes wtat_param_res r
-result_bytes (result.GetWtanParam r) = shape_bytes wtan_param_res r
-result_bytes (result.WtanParamEnq r) = shape_bytes wtan_param_res r
+result_bytes r = bytes_with results r
 
 -- what follows the invoke id
 abbrev pub body_bytes : Body → List ℕ
-body_bytes (body.Invoke i) = operation_field (invoke_operation i) ++ argument_bytes i
-body_bytes (body.ReturnResult r) = operation_field (result_operation r) ++ result_bytes r
+body_bytes (body.Invoke i) = operation_field (operation_with i) ++ argument_bytes i
+body_bytes (body.ReturnResult r) = operation_field (operation_with r) ++ result_bytes r
 body_bytes (body.ReturnError e) = shape_bytes return_error e
 body_bytes (body.Reject p) = shape_bytes reject p
 
@@ -75,11 +49,7 @@ encode a = head (kind_of_body a.body) a.id ++ body_bytes a.body
 -- fields that make an APDU
 
 abbrev pub invoke_right : Invoke → Bool
-invoke_right (invoke.AuthWtmUser a) = auth_wtm_arg.right a
-invoke_right (invoke.GetWtatParam a) = wtat_param_arg.right a
-invoke_right (invoke.WtatParamEnq a) = wtat_param_arg.right a
-invoke_right (invoke.GetWtanParam a) = wtan_param_arg.right a
-invoke_right (invoke.WtanParamEnq a) = wtan_param_arg.right a
+invoke_right i = right_with arguments i
 
 abbrev pub body_right : Body → Bool
 body_right (body.Invoke i) = invoke_right i

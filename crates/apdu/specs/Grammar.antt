@@ -16,6 +16,7 @@ use Rattle.apdu.specs.declared.apdus.WtanParamRes.TheVariants as wtan
 use Rattle.apdu.specs.Tags as tag
 use Rattle.wire.specs.Codes.{verdict_of, verdict_number, error_of, error_number}
 use Rattle.apdu.specs.Rows.{at, Shape}
+use Rattle.apdu.specs.Operations.{Shapes}
 use Rattle.users.specs.Users.{user_number, user_digits, is_user}
 use Rattle.apdu.specs.Values.{bind, one, exact, unit_of, session_of, must, may, flag, flagged}
 
@@ -124,3 +125,9 @@ reject =
       told = λ p. Some (p ∷ []) ∷ [];
       right = λ p. true;
     }
+
+abbrev pub arguments : Shapes AuthWtmArg WtatParamArg WtanParamArg
+arguments = record { auth_wtm = auth_wtm_arg; wtat_param = wtat_param_arg; wtan_param = wtan_param_arg }
+
+abbrev pub results : Shapes Verdict WtatParamRes WtanParamRes
+results = record { auth_wtm = auth_wtm_res; wtat_param = wtat_param_res; wtan_param = wtan_param_res }

@@ -1,5 +1,5 @@
 -- What ties reading to writing.
-use Rattle.std.specs.Prelude.{◌≡◌, ℕ, ◌<◌, true, List, length, Some, None, Option, slice_index}
+use Rattle.std.specs.Prelude.{◌≡◌, ℕ, ◌<◌, true, List, length, Some, None, Ok, Option, slice_index}
 use Rattle.apdu.specs.declared.apdus.AuthUnit.{AuthUnit}
 use Rattle.apdu.specs.declared.apdus.AuthSession.{AuthSession}
 use Rattle.apdu.specs.declared.apdus.AuthWtmArg.{AuthWtmArg}
@@ -10,17 +10,15 @@ use Rattle.apdu.specs.declared.apdus.WtatInfo.TheVariants as wtat
 use Rattle.apdu.specs.declared.apdus.WtatParamRes.{WtatParamRes}
 use Rattle.apdu.specs.declared.apdus.WtanParamRes.{WtanParamRes}
 use Rattle.apdu.specs.declared.apdus.WtanParamRes.TheVariants as wtan
-use Rattle.apdu.specs.declared.apdus.Invoke.{Invoke}
-use Rattle.apdu.specs.declared.apdus.Invoke.TheVariants as invoke
-use Rattle.apdu.specs.declared.apdus.ReturnResult.{ReturnResult}
-use Rattle.apdu.specs.declared.apdus.ReturnResult.TheVariants as result
+use Rattle.apdu.specs.declared.apdus.ByOperation.{ByOperation}
+use Rattle.apdu.specs.declared.apdus.ByOperation.TheVariants.{AuthWtmUser, GetWtatParam, WtatParamEnq, GetWtanParam, WtanParamEnq}
 use Rattle.apdu.specs.declared.apdus.Body.{Body}
 use Rattle.apdu.specs.declared.apdus.Body.TheVariants as body
 use Rattle.apdu.specs.declared.apdus.Apdu.{Apdu}
-use Rattle.apdu.specs.declared.apdus.Received.TheVariants as received
 use Rattle.apdu.specs.Decode.{received_as}
 use Rattle.apdu.specs.Tags as tag
 use Rattle.apdu.specs.Encode.{encode, is_right}
+use Rattle.apdu.specs.Operations.{Invoke, ReturnResult}
 
 -- a list of numbers is a string of bytes
 abbrev pub Bytes : List ℕ → Type 0
@@ -61,19 +59,22 @@ abbrev pub WtanResSized : WtanParamRes → Type 0
 WtanResSized (wtan.Session s) = SessionSized s
 WtanResSized (wtan.Response r) = OfSize tag.response_size r
 
+abbrev pub SizedWith : {A T N : Type 0} → (A → Type 0) → (T → Type 0) → (N → Type 0) → ByOperation A T N → Type 0
+SizedWith F G H (AuthWtmUser a) = F a
+SizedWith F G H (GetWtatParam t) = G t
+SizedWith F G H (WtatParamEnq t) = G t
+SizedWith F G H (GetWtanParam n) = H n
+SizedWith F G H (WtanParamEnq n) = H n
+
 abbrev pub InvokeSized : Invoke → Type 0
-InvokeSized (invoke.AuthWtmUser a) = AuthSized a
-InvokeSized (invoke.GetWtatParam a) = WtatSized a
-InvokeSized (invoke.WtatParamEnq a) = WtatSized a
-InvokeSized (invoke.GetWtanParam a) = WtanSized a
-InvokeSized (invoke.WtanParamEnq a) = WtanSized a
+InvokeSized i = SizedWith AuthSized WtatSized WtanSized i
+
+-- a value of any size
+abbrev pub AnySize : {A : Type 0} → A → Type 0
+AnySize x = Unit {0}
 
 abbrev pub ResultSized : ReturnResult → Type 0
-ResultSized (result.AuthWtmUser v) = Unit {0}
-ResultSized (result.GetWtatParam r) = WtatResSized r
-ResultSized (result.WtatParamEnq r) = WtatResSized r
-ResultSized (result.GetWtanParam r) = WtanResSized r
-ResultSized (result.WtanParamEnq r) = WtanResSized r
+ResultSized r = SizedWith AnySize WtatResSized WtanResSized r
 
 abbrev pub BodySized : Body → Type 0
 BodySized (body.Invoke i) = InvokeSized i
@@ -86,8 +87,8 @@ Sized a = (a.id < 65536) × BodySized a.body
 
 -- every APDU that is written reads back as the same APDU
 abbrev pub WrittenReadsBack : Type 0
-WrittenReadsBack = (a : Apdu) → Sized a → is_right a ≡ true → received_as (encode a) ≡ received.Apdu a
+WrittenReadsBack = (a : Apdu) → Sized a → is_right a ≡ true → received_as (encode a) ≡ Ok a
 
 -- every APDU that is read is right for the writer, and is written back as the same bytes
 abbrev pub ReadWritesBack : Type 0
-ReadWritesBack = (bs : List ℕ) (a : Apdu) → Bytes bs → received_as bs ≡ received.Apdu a → (encode a ≡ bs) × ((is_right a ≡ true) × Sized a)
+ReadWritesBack = (bs : List ℕ) (a : Apdu) → Bytes bs → received_as bs ≡ Ok a → (encode a ≡ bs) × ((is_right a ≡ true) × Sized a)

@@ -1,6 +1,7 @@
 pub mod Tags
 pub mod Fronts
 pub mod Rows
+pub mod Operations
 pub mod Values
 pub mod Grammar
 pub mod Decode

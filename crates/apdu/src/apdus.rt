@@ -69,25 +69,22 @@ pub enum WtanParamRes {
     Response(Response),
 }
 
-// An operation with its argument.
+// An operation with what goes with it: A with authWtmUser, T with getWtatParam and wtatParamEnq, N with
+// getWtanParam and wtanParamEnq.
 #[derive(Clone, Copy)]
-pub enum Invoke {
-    AuthWtmUser(AuthWtmArg),
-    GetWtatParam(WtatParamArg),
-    WtatParamEnq(WtatParamArg),
-    GetWtanParam(WtanParamArg),
-    WtanParamEnq(WtanParamArg),
+pub enum ByOperation<A, T, N> {
+    AuthWtmUser(A),
+    GetWtatParam(T),
+    WtatParamEnq(T),
+    GetWtanParam(N),
+    WtanParamEnq(N),
 }
 
+// An operation with its argument.
+pub type Invoke = ByOperation<AuthWtmArg, WtatParamArg, WtanParamArg>;
+
 // An operation with its result.
-#[derive(Clone, Copy)]
-pub enum ReturnResult {
-    AuthWtmUser(Verdict),
-    GetWtatParam(WtatParamRes),
-    WtatParamEnq(WtatParamRes),
-    GetWtanParam(WtanParamRes),
-    WtanParamEnq(WtanParamRes),
-}
+pub type ReturnResult = ByOperation<Verdict, WtatParamRes, WtanParamRes>;
 
 #[derive(Clone, Copy)]
 pub enum Body {
@@ -105,11 +102,10 @@ pub struct Apdu {
     pub body: Body,
 }
 
-// What a string of bytes is.
+// Why a string of bytes is no APDU.
 #[derive(Clone, Copy)]
-pub enum Received {
-    Apdu(Apdu),
-    // An invoke to be answered by a reject with this problem.
+pub enum NoApdu {
+    // It is an invoke to be answered by a reject with this problem.
     RejectDue { id: u16, problem: Problem },
     Garbled,
 }

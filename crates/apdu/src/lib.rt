@@ -3,14 +3,15 @@
 
 mod apdus;
 mod decode;
+mod row;
 mod tags;
 mod values;
 mod writer;
 
 pub use apdus::{
-    Apdu, AuthSession, AuthUnit, AuthWtmArg, Body, Challenge, Invoke, Parameter, Received,
-    Response, ReturnResult, SessionKey, WtanParamArg, WtanParamRes, WtatInfo, WtatParamArg,
-    WtatParamRes,
+    Apdu, AuthSession, AuthUnit, AuthWtmArg, Body, ByOperation, Challenge, Invoke, NoApdu,
+    Parameter, Response, ReturnResult, SessionKey, WtanParamArg, WtanParamRes, WtatInfo,
+    WtatParamArg, WtatParamRes,
 };
 pub use decode::read;
 pub use users::UserNumber;

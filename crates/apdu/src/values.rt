@@ -9,10 +9,9 @@ use crate::apdus::{AuthSession, AuthUnit};
 pub(crate) fn byte_in(value: &[u8]) -> Option<u8>
     ensures { result ≡ one value.now }
 {
-    if value.len() == 1 {
-        Some(value[0])
-    } else {
-        None
+    match value {
+        [byte] => Some(*byte),
+        _ => None,
     }
 }
 
@@ -20,31 +19,22 @@ pub(crate) fn byte_in(value: &[u8]) -> Option<u8>
 pub(crate) fn bytes_in<const N: usize>(value: &[u8]) -> Option<[u8; N]>
     ensures { result ≡ exact N value.now }
 {
-    match <[u8; N]>::try_from(value) {
-        Ok(bytes) => Some(bytes),
-        Err(_) => None,
-    }
+    value.try_into().ok()
 }
 
 // An invoke id, which is at least 1.
 pub(crate) fn id_in(value: &[u8]) -> Option<u16>
     ensures { result ≡ id_in value.now }
 {
-    if value.len() != 2 {
-        return None;
-    }
-    let id = value[0] as u16 * 256 + value[1] as u16;
-    if id == 0 { None } else { Some(id) }
+    let id = u16::from_be_bytes(bytes_in(value)?);
+    (id != 0).then_some(id)
 }
 
 // Exactly N bytes and then M.
 fn pair_in<const N: usize, const M: usize>(value: &[u8]) -> Option<([u8; N], [u8; M])>
     ensures { result ≡ pair N M value.now }
 {
-    if value.len() < N {
-        return None;
-    }
-    let (first, second) = value.split_at(N);
+    let (first, second) = value.split_at_checked(N)?;
     Some((bytes_in(first)?, bytes_in(second)?))
 }
 
@@ -71,6 +61,6 @@ pub(crate) fn flag_in(value: Option<&[u8]>) -> Option<bool>
 {
     match value {
         None => Some(false),
-        Some(value) => if value.is_empty() { Some(true) } else { None },
+        Some(value) => value.is_empty().then_some(true),
     }
 }

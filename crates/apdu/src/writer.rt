@@ -1,7 +1,8 @@
 // Writing an APDU to the front of a lent buffer.
 ghost use Rattle.std.specs.Prelude.{◌≡◌, ◌+◌, ◌<◌, ◌≤◌, true, [], ◌∷◌, ◌++◌, length};
 ghost use Rattle.std.specs.Option.{option_map};
-ghost use Rattle.apdu.specs.Encode.{head, operation_field, kind_of_body, invoke_operation, argument_bytes, result_operation, result_bytes, body_bytes, encode, invoke_right, body_right, is_right, write_answer, write_buffer};
+ghost use Rattle.apdu.specs.Encode.{head, operation_field, kind_of_body, argument_bytes, result_bytes, body_bytes, encode, invoke_right, body_right, is_right, write_answer, write_buffer};
+ghost use Rattle.apdu.specs.Operations.{operation_with};
 ghost use Rattle.wire.specs.Fields.{field};
 ghost use Rattle.apdu.specs.Fronts.{Wrote, front};
 ghost use Rattle.apdu.specs.Grammar.{unit_value, session_value, auth_wtm_arg, wtat_param_arg, wtan_param_arg, auth_wtm_res, wtat_told, wtat_param_res, wtan_param_res};
@@ -12,7 +13,7 @@ ghost use Rattle.users.specs.Users.{user_digits, is_user};
 ghost use Rattle.apdu.specs.Values.{flagged};
 
 use crate::apdus::{
-    Apdu, AuthSession, AuthUnit, AuthWtmArg, Body, Invoke, ReturnResult, WtanParamArg,
+    Apdu, AuthSession, AuthUnit, AuthWtmArg, Body, ByOperation, Invoke, ReturnResult, WtanParamArg,
     WtanParamRes, WtatInfo, WtatParamArg, WtatParamRes,
 };
 use crate::tags;
@@ -158,7 +159,7 @@ fn put_verdict(out: &mut [u8], at: usize, verdict: Verdict) -> usize
     requires { at + 4 ≤ length out.old }
     ensures { Wrote out.old at (shape_bytes auth_wtm_res verdict) out.new result }
 {
-    put_byte(out, at, tags::VERDICT, verdict.number())
+    put_byte(out, at, tags::VERDICT, verdict.into())
 }
 
 fn put_wtat_info(out: &mut [u8], at: usize, info: &WtatInfo) -> usize
@@ -189,19 +190,21 @@ fn put_wtan_param_res(out: &mut [u8], at: usize, res: &WtanParamRes) -> usize
     }
 }
 
-impl Invoke {
+impl<A, T, N> ByOperation<A, T, N> {
     fn operation(&self) -> Operation
-        ensures { result ≡ invoke_operation self.now }
+        ensures { result ≡ operation_with self.now }
     {
         match self {
-            Invoke::AuthWtmUser(_) => Operation::AuthWtmUser,
-            Invoke::GetWtatParam(_) => Operation::GetWtatParam,
-            Invoke::WtatParamEnq(_) => Operation::WtatParamEnq,
-            Invoke::GetWtanParam(_) => Operation::GetWtanParam,
-            Invoke::WtanParamEnq(_) => Operation::WtanParamEnq,
+            ByOperation::AuthWtmUser(_) => Operation::AuthWtmUser,
+            ByOperation::GetWtatParam(_) => Operation::GetWtatParam,
+            ByOperation::WtatParamEnq(_) => Operation::WtatParamEnq,
+            ByOperation::GetWtanParam(_) => Operation::GetWtanParam,
+            ByOperation::WtanParamEnq(_) => Operation::WtanParamEnq,
         }
     }
+}
 
+impl Invoke {
     // Whether its user number is lawful.
     fn is_right(&self) -> bool
         ensures { result ≡ invoke_right self.now }
@@ -214,20 +217,6 @@ impl Invoke {
             Invoke::WtanParamEnq(arg) => arg.user,
         };
         user.is_lawful()
-    }
-}
-
-impl ReturnResult {
-    fn operation(&self) -> Operation
-        ensures { result ≡ result_operation self.now }
-    {
-        match self {
-            ReturnResult::AuthWtmUser(_) => Operation::AuthWtmUser,
-            ReturnResult::GetWtatParam(_) => Operation::GetWtatParam,
-            ReturnResult::WtatParamEnq(_) => Operation::WtatParamEnq,
-            ReturnResult::GetWtanParam(_) => Operation::GetWtanParam,
-            ReturnResult::WtanParamEnq(_) => Operation::WtanParamEnq,
-        }
     }
 }
 
@@ -258,7 +247,7 @@ fn put_operation(out: &mut [u8], at: usize, operation: Operation) -> usize
     requires { at + 4 ≤ length out.old }
     ensures { Wrote out.old at (operation_field operation) out.new result }
 {
-    put_byte(out, at, tags::OPERATION, operation.number())
+    put_byte(out, at, tags::OPERATION, operation.into())
 }
 
 fn put_argument(out: &mut [u8], at: usize, invoke: &Invoke) -> usize
@@ -303,7 +292,7 @@ fn put_body(out: &mut [u8], at: usize, body: &Body) -> usize
             let at = put_operation(out, at, result.operation());
             put_result(out, at, result)
         }
-        Body::ReturnError(error) => put_byte(out, at, tags::ERROR, error.number()),
+        Body::ReturnError(error) => put_byte(out, at, tags::ERROR, (*error).into()),
         Body::Reject(problem) => put_byte(out, at, tags::PROBLEM, *problem),
     }
 }
@@ -313,7 +302,7 @@ fn put_head(out: &mut [u8], kind: Kind, id: u16) -> usize
     requires { 64 ≤ length out.old }
     ensures { Wrote out.old 0 (head kind id) out.new result }
 {
-    let at = put_byte(out, 0, tags::KIND, kind.number());
+    let at = put_byte(out, 0, tags::KIND, kind.into());
     put_field(out, at, tags::ID, &[(id / 256) as u8, (id % 256) as u8])
 }
 

@@ -1,71 +1,74 @@
 // Why a call is turned down. A refusal returns its number alone and changes nothing.
 #![tactic(auto)]
 
-ghost use Rattle.std.specs.Prelude.{◌≡◌};
+ghost use Rattle.std.specs.Prelude.{◌≡◌, Some};
+ghost use Rattle.std.specs.Option.{ok_or};
 ghost use Rattle.refusal.specs.Numbers.{refusal_number, refusal_name, numbered};
+
+use std::error::Error;
+use std::fmt;
 
 // In the order in which a call checks for them.
 #[derive(Clone, Copy, PartialEq, Eq, Debug)]
 pub enum Refusal {
     // The output buffer is under 64 bytes.
-    ShortSheet,
+    ShortSheet = 1,
     // The reading is below the last one, or above 2^40.
-    ClockBack,
+    ClockBack = 2,
     // The call is no clock call, and a timer ends at or before its reading.
-    TimerDue,
+    TimerDue = 3,
     // A bad user number, a peer that is not among the links, or peer 0 for a link.
-    Misdialled,
+    Misdialled = 4,
     // A tape record that is cut, unknown, of a wrong size, or a second fit-out; fields to write that are no APDU.
-    Garbled,
+    Garbled = 5,
     // The directory has a record with this key.
-    Twice,
+    Twice = 7,
     // No place is left for a dialogue or a record.
-    Full,
+    Full = 8,
     // The numbers for opening dialogues are used up.
-    Spent,
+    Spent = 9,
     // A fit-out value is out of its range.
-    Misfitted,
+    Misfitted = 10,
 }
 
-impl Refusal {
-    pub fn number(self) -> u8
-        ensures { result ≡ refusal_number self }
-    {
-        match self {
-            Refusal::ShortSheet => 1,
-            Refusal::ClockBack => 2,
-            Refusal::TimerDue => 3,
-            Refusal::Misdialled => 4,
-            Refusal::Garbled => 5,
-            Refusal::Twice => 7,
-            Refusal::Full => 8,
-            Refusal::Spent => 9,
-            Refusal::Misfitted => 10,
-        }
-    }
+// A number that no refusal has.
+#[derive(Clone, Copy, PartialEq, Eq, Debug)]
+pub struct UnknownRefusal(pub u8);
 
-    // The refusal with this number.
-    pub fn from_number(number: u8) -> Option<Refusal>
-        ensures { result ≡ numbered number }
-    {
+impl From<Refusal> for u8 {
+    ghost from_gives = { λ refusal n. n ≡ refusal_number refusal };
+
+    fn from(refusal: Refusal) -> u8 {
+        refusal as u8
+    }
+}
+
+impl TryFrom<u8> for Refusal {
+    type Error = UnknownRefusal;
+
+    ghost try_from_gives = { λ n answer. answer ≡ ok_or (numbered n) (record { 0 = n }) };
+
+    fn try_from(number: u8) -> Result<Refusal, UnknownRefusal> {
         match number {
-            1 => Some(Refusal::ShortSheet),
-            2 => Some(Refusal::ClockBack),
-            3 => Some(Refusal::TimerDue),
-            4 => Some(Refusal::Misdialled),
-            5 => Some(Refusal::Garbled),
-            7 => Some(Refusal::Twice),
-            8 => Some(Refusal::Full),
-            9 => Some(Refusal::Spent),
-            10 => Some(Refusal::Misfitted),
-            _ => None,
+            1 => Ok(Refusal::ShortSheet),
+            2 => Ok(Refusal::ClockBack),
+            3 => Ok(Refusal::TimerDue),
+            4 => Ok(Refusal::Misdialled),
+            5 => Ok(Refusal::Garbled),
+            7 => Ok(Refusal::Twice),
+            8 => Ok(Refusal::Full),
+            9 => Ok(Refusal::Spent),
+            10 => Ok(Refusal::Misfitted),
+            _ => Err(UnknownRefusal(number)),
         }
     }
+}
 
-    pub fn name(self) -> &'static str
-        ensures { result.now ≡ refusal_name self }
-    {
-        match self {
+impl fmt::Display for Refusal {
+    ghost output = { λ refusal. Some (refusal_name refusal) };
+
+    fn fmt<W: fmt::Write>(&self, f: &mut fmt::Formatter<W>) -> fmt::Result {
+        f.write_str(match self {
             Refusal::ShortSheet => "short sheet",
             Refusal::ClockBack => "clock back",
             Refusal::TimerDue => "timer due",
@@ -75,6 +78,8 @@ impl Refusal {
             Refusal::Full => "full",
             Refusal::Spent => "spent",
             Refusal::Misfitted => "misfitted",
-        }
+        })
     }
 }
+
+impl Error for Refusal {}

@@ -56,34 +56,10 @@ fn put_digits(places: &mut [u8], n: u64)
     ensures { places.new ≡ digits (length places.old) n }
 {
     let mut n = n;
+    // Not `places.iter_mut().rev()`: no fact is known of a slice behind an adapter of `iter_mut`.
     for i in (0..places.len()).rev() {
         places[i] = last_digit(n);
         n /= 10;
-    }
-}
-
-// 10 to a power of at most 15.
-fn ten_to(power: u64) -> u64
-    requires { power ≤ 15 }
-    ensures { result ≡ 10 ^ power }
-{
-    match power {
-        0 => 1,
-        1 => 10,
-        2 => 100,
-        3 => 1_000,
-        4 => 10_000,
-        5 => 100_000,
-        6 => 1_000_000,
-        7 => 10_000_000,
-        8 => 100_000_000,
-        9 => 1_000_000_000,
-        10 => 10_000_000_000,
-        11 => 100_000_000_000,
-        12 => 1_000_000_000_000,
-        13 => 10_000_000_000_000,
-        14 => 100_000_000_000_000,
-        _ => 1_000_000_000_000_000,
     }
 }
 
@@ -103,7 +79,7 @@ impl UserNumber {
         ensures { result ≡ is_user self }
     {
         let count = self.key / COUNT;
-        1 <= count && count <= 15 && self.key % COUNT < ten_to(count)
+        (1..=15).contains(&count) && self.key % COUNT < 10u64.pow(count as u32)
     }
 
     // How many digits it has.

@@ -1,157 +1,155 @@
 // The code lists: what each number in a field of one byte stands for.
 ghost use Rattle.std.specs.Prelude.{◌≡◌};
+ghost use Rattle.std.specs.Option.{ok_or};
 ghost use Rattle.wire.specs.Codes.{kind_number, kind_of, operation_number, operation_of, verdict_number, verdict_of, error_number, error_of, problem_number};
 
-#[derive(Clone, Copy)]
+// A number that stands for nothing in its list.
+#[derive(Clone, Copy, PartialEq, Eq, Debug)]
+pub struct UnknownNumber(pub u8);
+
+#[derive(Clone, Copy, PartialEq, Eq, Debug)]
 pub enum Kind {
-    Invoke,
-    ReturnResult,
-    ReturnError,
-    Reject,
+    Invoke = 1,
+    ReturnResult = 2,
+    ReturnError = 3,
+    Reject = 4,
 }
 
-impl Kind {
-    pub fn number(self) -> u8
-        ensures { result ≡ kind_number self }
-    {
-        match self {
-            Kind::Invoke => 1,
-            Kind::ReturnResult => 2,
-            Kind::ReturnError => 3,
-            Kind::Reject => 4,
-        }
-    }
+impl From<Kind> for u8 {
+    ghost from_gives = { λ kind n. n ≡ kind_number kind };
 
-    pub fn from_number(number: u8) -> Option<Kind>
-        ensures { result ≡ kind_of number }
-    {
+    fn from(kind: Kind) -> u8 {
+        kind as u8
+    }
+}
+
+impl TryFrom<u8> for Kind {
+    type Error = UnknownNumber;
+
+    ghost try_from_gives = { λ n answer. answer ≡ ok_or (kind_of n) (record { 0 = n }) };
+
+    fn try_from(number: u8) -> Result<Kind, UnknownNumber> {
         match number {
-            1 => Some(Kind::Invoke),
-            2 => Some(Kind::ReturnResult),
-            3 => Some(Kind::ReturnError),
-            4 => Some(Kind::Reject),
-            _ => None,
+            1 => Ok(Kind::Invoke),
+            2 => Ok(Kind::ReturnResult),
+            3 => Ok(Kind::ReturnError),
+            4 => Ok(Kind::Reject),
+            _ => Err(UnknownNumber(number)),
         }
     }
 }
 
-#[derive(Clone, Copy)]
+#[derive(Clone, Copy, PartialEq, Eq, Debug)]
 pub enum Operation {
-    AuthWtmUser,
-    GetWtatParam,
-    WtatParamEnq,
-    GetWtanParam,
-    WtanParamEnq,
+    AuthWtmUser = 1,
+    GetWtatParam = 2,
+    WtatParamEnq = 3,
+    GetWtanParam = 4,
+    WtanParamEnq = 5,
 }
 
-impl Operation {
-    pub fn number(self) -> u8
-        ensures { result ≡ operation_number self }
-    {
-        match self {
-            Operation::AuthWtmUser => 1,
-            Operation::GetWtatParam => 2,
-            Operation::WtatParamEnq => 3,
-            Operation::GetWtanParam => 4,
-            Operation::WtanParamEnq => 5,
-        }
-    }
+impl From<Operation> for u8 {
+    ghost from_gives = { λ operation n. n ≡ operation_number operation };
 
-    pub fn from_number(number: u8) -> Option<Operation>
-        ensures { result ≡ operation_of number }
-    {
+    fn from(operation: Operation) -> u8 {
+        operation as u8
+    }
+}
+
+impl TryFrom<u8> for Operation {
+    type Error = UnknownNumber;
+
+    ghost try_from_gives = { λ n answer. answer ≡ ok_or (operation_of n) (record { 0 = n }) };
+
+    fn try_from(number: u8) -> Result<Operation, UnknownNumber> {
         match number {
-            1 => Some(Operation::AuthWtmUser),
-            2 => Some(Operation::GetWtatParam),
-            3 => Some(Operation::WtatParamEnq),
-            4 => Some(Operation::GetWtanParam),
-            5 => Some(Operation::WtanParamEnq),
-            _ => None,
+            1 => Ok(Operation::AuthWtmUser),
+            2 => Ok(Operation::GetWtatParam),
+            3 => Ok(Operation::WtatParamEnq),
+            4 => Ok(Operation::GetWtanParam),
+            5 => Ok(Operation::WtanParamEnq),
+            _ => Err(UnknownNumber(number)),
         }
     }
 }
 
 // Whether a user's response was the expected one.
-#[derive(Clone, Copy)]
+#[derive(Clone, Copy, PartialEq, Eq, Debug)]
 pub enum Verdict {
-    Correct,
-    Incorrect,
+    Correct = 0,
+    Incorrect = 1,
 }
 
-impl Verdict {
-    pub fn number(self) -> u8
-        ensures { result ≡ verdict_number self }
-    {
-        match self {
-            Verdict::Correct => 0,
-            Verdict::Incorrect => 1,
-        }
-    }
+impl From<Verdict> for u8 {
+    ghost from_gives = { λ verdict n. n ≡ verdict_number verdict };
 
-    pub fn from_number(number: u8) -> Option<Verdict>
-        ensures { result ≡ verdict_of number }
-    {
+    fn from(verdict: Verdict) -> u8 {
+        verdict as u8
+    }
+}
+
+impl TryFrom<u8> for Verdict {
+    type Error = UnknownNumber;
+
+    ghost try_from_gives = { λ n answer. answer ≡ ok_or (verdict_of n) (record { 0 = n }) };
+
+    fn try_from(number: u8) -> Result<Verdict, UnknownNumber> {
         match number {
-            0 => Some(Verdict::Correct),
-            1 => Some(Verdict::Incorrect),
-            _ => None,
+            0 => Ok(Verdict::Correct),
+            1 => Ok(Verdict::Incorrect),
+            _ => Err(UnknownNumber(number)),
         }
     }
 }
 
 // Why an invoke is answered by an error.
-#[derive(Clone, Copy)]
+#[derive(Clone, Copy, PartialEq, Eq, Debug)]
 pub enum ErrorCode {
-    InvalidServedUserNr,
-    ParamNotAvailable,
-    TemporarilyUnavailable,
-    NotAuthorized,
-    Unspecified,
+    InvalidServedUserNr = 1,
+    ParamNotAvailable = 2,
+    TemporarilyUnavailable = 3,
+    NotAuthorized = 4,
+    Unspecified = 5,
 }
 
-impl ErrorCode {
-    pub fn number(self) -> u8
-        ensures { result ≡ error_number self }
-    {
-        match self {
-            ErrorCode::InvalidServedUserNr => 1,
-            ErrorCode::ParamNotAvailable => 2,
-            ErrorCode::TemporarilyUnavailable => 3,
-            ErrorCode::NotAuthorized => 4,
-            ErrorCode::Unspecified => 5,
-        }
-    }
+impl From<ErrorCode> for u8 {
+    ghost from_gives = { λ error n. n ≡ error_number error };
 
-    pub fn from_number(number: u8) -> Option<ErrorCode>
-        ensures { result ≡ error_of number }
-    {
+    fn from(error: ErrorCode) -> u8 {
+        error as u8
+    }
+}
+
+impl TryFrom<u8> for ErrorCode {
+    type Error = UnknownNumber;
+
+    ghost try_from_gives = { λ n answer. answer ≡ ok_or (error_of n) (record { 0 = n }) };
+
+    fn try_from(number: u8) -> Result<ErrorCode, UnknownNumber> {
         match number {
-            1 => Some(ErrorCode::InvalidServedUserNr),
-            2 => Some(ErrorCode::ParamNotAvailable),
-            3 => Some(ErrorCode::TemporarilyUnavailable),
-            4 => Some(ErrorCode::NotAuthorized),
-            5 => Some(ErrorCode::Unspecified),
-            _ => None,
+            1 => Ok(ErrorCode::InvalidServedUserNr),
+            2 => Ok(ErrorCode::ParamNotAvailable),
+            3 => Ok(ErrorCode::TemporarilyUnavailable),
+            4 => Ok(ErrorCode::NotAuthorized),
+            5 => Ok(ErrorCode::Unspecified),
+            _ => Err(UnknownNumber(number)),
         }
     }
 }
 
 // Why an invoke is answered by a reject. A reject that is received may have any number.
-#[derive(Clone, Copy)]
+#[derive(Clone, Copy, PartialEq, Eq, Debug)]
 pub enum Problem {
     // No operation has this number.
-    UnknownOperation,
+    UnknownOperation = 1,
     // What follows the operation is not what the operation has.
-    WrongArgument,
+    WrongArgument = 2,
 }
 
-impl Problem {
-    pub fn number(self) -> u8
-        ensures { result ≡ problem_number self }
-    {
-        match self {
-            Problem::UnknownOperation => 1,
-            Problem::WrongArgument => 2,
-        }
+impl From<Problem> for u8 {
+    ghost from_gives = { λ problem n. n ≡ problem_number problem };
+
+    fn from(problem: Problem) -> u8 {
+        problem as u8
     }
 }

@@ -1,6 +1,7 @@
 // A row of fields, each a tag, a length of two bytes and a value.
-ghost use Rattle.std.specs.Prelude.{◌≡◌, Some, None, MatchOption};
+ghost use Rattle.std.specs.Prelude.{◌≡◌, length, Some, None, MatchOption};
 ghost use Rattle.std.specs.Option.{option_map};
+ghost use Rattle.std.specs.Iterator.{at_most};
 ghost use Rattle.wire.specs.Fields.{next_field, value, after, unread, is_nothing};
 
 #[derive(Clone, Copy)]
@@ -10,7 +11,7 @@ pub struct Field<'a> {
 }
 
 // The bytes that are not read yet.
-#[derive(Drop)]
+#[derive(Clone, Drop)]
 pub struct Reader<'a> {
     rest: &'a [u8],
 }
@@ -22,45 +23,37 @@ impl<'a> Reader<'a> {
         Reader { rest: bytes }
     }
 
-    // The next field, as a part of the bytes; none where it is cut, and then the reader stays.
-    pub fn next(&mut self) -> Option<Field<'a>>
-        ensures { MatchOption result ((next_field (unread self.old) ≡ None) × (unread self.new ≡ unread self.old)) (λ f. next_field (unread self.old) ≡ Some (record { tag = f.tag; value = f.value.now; rest = unread self.new })) }
-    {
-        let rest = self.rest;
-        if rest.len() < 3 {
-            return None;
-        }
-        let (head, body) = rest.split_at(3);
-        let size = head[1] as usize * 256 + head[2] as usize;
-        if body.len() < size {
-            return None;
-        }
-        let (value, after) = body.split_at(size);
-        self.rest = after;
-        Some(Field {
-            tag: head[0],
-            value,
-        })
-    }
-
     // The value of the field with this tag, if it is the next one; the reader then stands behind it.
-    pub fn take(&mut self, tag: u8) -> Option<&'a [u8]>
+    pub fn take_value(&mut self, tag: u8) -> Option<&'a [u8]>
         ensures value { option_map (λ x. x.now) result ≡ value tag (unread self.old) }
         ensures after { unread self.new ≡ after tag (unread self.old) }
     {
         let mut ahead = Reader { rest: self.rest };
-        match ahead.next() {
-            Some(field) if field.tag == tag => {
-                self.rest = ahead.rest;
-                Some(field.value)
-            }
-            _ => None,
-        }
+        let field = ahead.next().filter(|field| field.tag == tag)?;
+        *self = ahead;
+        Some(field.value)
     }
 
     pub fn is_done(&self) -> bool
         ensures { result ≡ is_nothing (unread self.now) }
     {
         self.rest.is_empty()
+    }
+}
+
+// The fields one by one, each as a part of the bytes. Where one is cut the reader ends and stays.
+impl<'a> Iterator for Reader<'a> {
+    type Item = Field<'a>;
+
+    ghost next_gives = { λ before result left. MatchOption result ((next_field (unread before) ≡ None) × (unread left ≡ unread before)) (λ f. next_field (unread before) ≡ Some (record { tag = f.tag; value = f.value.now; rest = unread left })) };
+
+    ghost remaining = { λ reader. at_most (length (unread reader)) };
+
+    fn next(&mut self) -> Option<Field<'a>> {
+        let ([tag, high, low], body) = self.rest.split_first_chunk::<3>()?;
+        let size = usize::from(u16::from_be_bytes([*high, *low]));
+        let (value, after) = body.split_at_checked(size)?;
+        self.rest = after;
+        Some(Field { tag: *tag, value })
     }
 }

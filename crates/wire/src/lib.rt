@@ -4,5 +4,5 @@
 mod codes;
 mod fields;
 
-pub use codes::{ErrorCode, Kind, Operation, Problem, Verdict};
+pub use codes::{ErrorCode, Kind, Operation, Problem, UnknownNumber, Verdict};
 pub use fields::{Field, Reader};
