@@ -4,7 +4,7 @@ use Rattle.refusal.specs.declared.Refusal.{Refusal}
 use Rattle.refusal.specs.declared.Refusal.TheVariants.{Misdialled}
 use Rattle.apdu.specs.declared.apdus.Apdu.{Apdu}
 use Rattle.apdu.specs.declared.apdus.Body.TheVariants.{Invoke}
-use Rattle.apdu.specs.declared.apdus.Invoke.TheVariants.{AuthWtmUser}
+use Rattle.apdu.specs.declared.apdus.ByOperation.TheVariants.{AuthWtmUser}
 use Rattle.users.specs.declared.UserNumber.{UserNumber}
 use Rattle.users.specs.Users.{user_number}
 use Rattle.apdu.specs.Encode.{encode}

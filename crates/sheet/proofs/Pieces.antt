@@ -1,15 +1,13 @@
 -- A tape in pieces, one after another. Assumes nothing.
 use Rattle.std.proofs.Common.{◌≡◌, ℕ, zero, suc, ◌+◌, ◌-◌, ◌≤◌, false, cond, leb, List, [], ◌∷◌, ◌++◌, length, take, drop, Some, None, Option, Result, sym, refl, ap, ◌∙◌, ⊎_elim, arith, length-drop, eq-eqb, ne_eqb}
 use borrow.Author.Tests.{eqb-false}
-use Rattle.std.proofs.lemmas.List.{append_assoc}
 use Rattle.std.proofs.lemmas.Bool.{cases_Bool, leb-true}
 use Rattle.wire.specs.Fields.{Cut, cut, next_field, is_nothing}
-use Rattle.sheet.specs.Records.{Entry, read_entry}
+use Rattle.sheet.specs.Records.{read_entry}
 use Rattle.refusal.specs.declared.Refusal.{Refusal}
 use Rattle.exchange.specs.declared.service.Service.{Service}
 use Rattle.sheet.specs.Bench.{State, AfterRecord, first_taken, taken}
-use Rattle.sheet.specs.Lines.{sheet_record}
-use Rattle.sheet.specs.Run.{Piece, whole, cut_off, piece, pieces, pieces_of, blank, run_on, run_from, run_pieces, sheet_of}
+use Rattle.sheet.specs.Run.{Piece, whole, cut_off, piece, pieces, pieces_of, blank, record_after, run_on, run_from, run_pieces, sheet_of}
 
 none_some : {X : Type 0} {x : X} → None ≡ Some x → ⊥
 none_some e = let z : ◌≡◌ {A = ℕ} 0 1 = cc in omega arith
@@ -64,18 +62,11 @@ pieces_whole bs f e =
     p.2 ∙ ap (λ (ps : List Piece). whole f.tag f.value ∷ ps) (pieces_enough p.0 (length f.rest) f.rest (omega (arith, p.1)) (omega arith))
 
 -- one record of the tape, and its record of the sheet
-pub turn : (items items' : List ℕ) (b : State) (bs : List ℕ) (f : Cut) (e : Entry) (a : AfterRecord) → next_field bs ≡ Some f → e ≡ read_entry f.tag f.value → a ≡ taken b e blank → items' ≡ items ++ sheet_record a.result a.buffer → items' ++ run_on a.bench (pieces_of f.rest) ≡ items ++ run_on b (pieces_of bs)
-turn items items' b bs f e a next is after adds =
+pub turn : (b : State) (bs : List ℕ) (f : Cut) (a : AfterRecord) → next_field bs ≡ Some f → a ≡ taken b (read_entry f.tag f.value) blank → record_after a ++ run_on a.bench (pieces_of f.rest) ≡ run_on b (pieces_of bs)
+turn b bs f a next after =
     let rest : List Piece = pieces_of f.rest in
-    ap (λ (xs : List ℕ). xs ++ run_on a.bench rest) adds
-    ∙ append_assoc items (sheet_record a.result a.buffer) (run_on a.bench rest)
-    ∙ ap (λ (r : AfterRecord). items ++ (sheet_record r.result r.buffer ++ run_on r.bench rest)) (after ∙ ap (λ (x : Entry). taken b x blank) is)
-    ∙ ap (λ (ps : List Piece). items ++ run_on b ps) (sym (pieces_whole bs f next))
+    ap (λ (r : AfterRecord). record_after r ++ run_on r.bench rest) after ∙ ap (run_on b) (sym (pieces_whole bs f next))
 
 -- the first record decides the run
-pub first : (bs : List ℕ) (f : Cut) (e : Entry) (r : Result Service Refusal) → next_field bs ≡ Some f → e ≡ read_entry f.tag f.value → r ≡ first_taken e → sheet_of bs ≡ run_from r (pieces_of f.rest)
-first bs f e r next is after =
-    let rest : List Piece = pieces_of f.rest in
-    ap run_pieces (pieces_whole bs f next)
-    ∙ ap (λ (x : Entry). run_from (first_taken x) rest) (sym is)
-    ∙ ap (λ (x : Result Service Refusal). run_from x rest) (sym after)
+pub first : (bs : List ℕ) (f : Cut) (r : Result Service Refusal) → next_field bs ≡ Some f → r ≡ first_taken (read_entry f.tag f.value) → sheet_of bs ≡ run_from r (pieces_of f.rest)
+first bs f r next after = ap run_pieces (pieces_whole bs f next) ∙ ap (λ (x : Result Service Refusal). run_from x (pieces_of f.rest)) (sym after)

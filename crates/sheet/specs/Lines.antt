@@ -1,5 +1,5 @@
 -- The records of a sheet: 30 sent, 31 report, 32 refusal, 33 done.
-use Rattle.std.specs.Prelude.{ℕ, List, [], ◌∷◌, ◌++◌, take, Ok, Err, Result}
+use Rattle.std.specs.Prelude.{ℕ, List, [], ◌∷◌, ◌++◌, take, Ok, Err, Option, Result}
 use Rattle.refusal.specs.declared.Refusal.{Refusal}
 use Rattle.refusal.specs.Numbers.{refusal_number}
 use Rattle.wire.specs.Fields.{field, two}
@@ -11,6 +11,20 @@ use Rattle.exchange.specs.declared.outcome.Cause.TheVariants.{Expiry}
 use Rattle.exchange.specs.declared.outcome.Report.{Report}
 use Rattle.exchange.specs.declared.outcome.Report.TheVariants.{Failure}
 use Rattle.exchange.specs.FitOut.{timer_number}
+use Rattle.sheet.specs.declared.lines.Answer.{Answer}
+use Rattle.sheet.specs.declared.lines.Answer.TheVariants as answer
+use Rattle.wire.specs.Codes.{coded}
+
+-- the tag of each answer
+abbrev pub answer_tag : Answer → ℕ
+answer_tag answer.Sent = 0x30
+answer_tag answer.Reported = 0x31
+answer_tag answer.Refused = 0x32
+answer_tag answer.Done = 0x33
+
+-- the answer with a tag
+abbrev pub answer_of : ℕ → Option Answer
+answer_of tag = coded answer_tag (answer.Sent ∷ answer.Reported ∷ answer.Refused ∷ answer.Done ∷ []) tag
 
 -- a cause and its number: 3 expiry, with the timer's
 abbrev pub cause_bytes : Cause → List ℕ

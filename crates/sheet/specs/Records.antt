@@ -1,5 +1,5 @@
 -- The records of a tape.
-use Rattle.std.specs.Prelude.{ℕ, ◌+◌, ◌*◌, cond, List, [], ◌∷◌, length, take, drop, ◌==◌, nat_lt, slice_index}
+use Rattle.std.specs.Prelude.{ℕ, ◌+◌, ◌*◌, cond, List, [], ◌∷◌, length, take, drop, Some, None, Option, ◌==◌, nat_lt, slice_index}
 use Rattle.exchange.specs.declared.fit_out.FitOut.{FitOut}
 use Rattle.sheet.specs.declared.record.Record.{Record}
 use Rattle.sheet.specs.declared.record.Record.TheVariants as record_of
@@ -18,7 +18,11 @@ view (record_of.FitOut f) = fit_out f
 view (record_of.Link peer) = link peer
 view (record_of.PlainInitiation reading peer digits) = initiation reading peer digits.now
 view (record_of.Clock reading) = clock reading
-view record_of.Unreadable = unreadable
+
+-- what a record asks, if the bytes are one
+abbrev pub seen : Option Record → Entry
+seen None = unreadable
+seen (Some r) = view r
 
 -- the number that bytes write behind n, high byte first
 abbrev pub big_endian : ℕ → List ℕ → ℕ

@@ -1,13 +1,14 @@
 // An exchange in service with its links, as the records of a tape reach it.
 ghost use Rattle.std.specs.Prelude.{◌≡◌, [], length};
 ghost use Rattle.exchange.specs.Entry.{service_of};
-ghost use Rattle.sheet.specs.Records.{view};
+ghost use Rattle.sheet.specs.Records.{read_entry};
 ghost use Rattle.sheet.specs.Bench.{state_of, first_taken, taken};
 
 use crate::record::Record;
 use directory::Directory;
 use exchange::{Done, Exchange, Link, add_link};
 use refusal::Refusal;
+use wire::Field;
 
 #[derive(Drop)]
 pub(crate) struct Bench<'a> {
@@ -15,15 +16,13 @@ pub(crate) struct Bench<'a> {
     links: Directory<'a, Link>,
 }
 
-impl<'a> Record<'a> {
-    // Enters service with the first record, which has to be a lawful fit-out.
-    pub(crate) fn enter_service(&self) -> Result<Exchange, Refusal>
-        ensures { service_of result ≡ first_taken (view self.now) }
-    {
-        match *self {
-            Record::FitOut(fit) => fit.enter_service(),
-            _ => Err(Refusal::Misfitted),
-        }
+// Enters service with the first record, which has to be a lawful fit-out.
+pub(crate) fn enter_service(first: Field<'_>) -> Result<Exchange, Refusal>
+    ensures { service_of result ≡ first_taken (read_entry first.entry.tag first.entry.value.now) }
+{
+    match Record::read(first) {
+        Some(Record::FitOut(fit)) => fit.enter_service(),
+        _ => Err(Refusal::Misfitted),
     }
 }
 
@@ -39,10 +38,10 @@ impl<'a> Bench<'a> {
     }
 
     // Takes a record that follows.
-    pub(crate) fn take(&mut self, entry: &Record<'_>, out: &mut [u8]) -> Result<Done, Refusal>
-        ensures { record { result = result; bench = state_of self.new; buffer = out.new } ≡ taken (state_of self.old) (view entry.now) out.old }
+    pub(crate) fn take(&mut self, field: Field<'_>, out: &mut [u8]) -> Result<Done, Refusal>
+        ensures { record { result = result; bench = state_of self.new; buffer = out.new } ≡ taken (state_of self.old) (read_entry field.entry.tag field.entry.value.now) out.old }
     {
-        match *entry {
+        match Record::read(field).ok_or(Refusal::Garbled)? {
             Record::FitOut(_) => Err(Refusal::Garbled),
             Record::Link { peer } => {
                 add_link(&mut self.links, peer)?;
@@ -56,7 +55,6 @@ impl<'a> Bench<'a> {
                 .exchange
                 .plain_initiation(reading, digits, peer, &self.links, out),
             Record::Clock { reading } => self.exchange.clock(reading, out),
-            Record::Unreadable => Err(Refusal::Garbled),
         }
     }
 }

@@ -7,5 +7,6 @@ mod numbers;
 mod record;
 mod run;
 
+pub use lines::{Answer, EXPIRY, FAILURE};
 pub use record::Record;
 pub use run::sheet;

@@ -1,25 +1,58 @@
 // The records of a sheet.
 ghost use Rattle.std.specs.Prelude.{◌≡◌, ◌≤◌, ◌∷◌, length, take};
 ghost use Rattle.wire.specs.Fields.{field};
+ghost use Rattle.std.specs.Option.{ok_or};
 ghost use Rattle.sheet.specs.Adds.{Adds};
-ghost use Rattle.sheet.specs.Lines.{report_record, sheet_record};
+ghost use Rattle.sheet.specs.Lines.{answer_of, report_record, sheet_record};
 
 use exchange::{Cause, Done, OwnNumber, Report};
 use refusal::Refusal;
 use std::alloc::AllocError;
+use wire::UnknownNumber;
+
+// What a record of a sheet says, by its tag.
+#[derive(Clone, Copy, PartialEq, Eq, Debug)]
+pub enum Answer {
+    Sent = 0x30,
+    Reported = 0x31,
+    Refused = 0x32,
+    Done = 0x33,
+}
+
+impl TryFrom<u8> for Answer {
+    type Error = UnknownNumber;
+
+    ghost try_from_gives = { λ tag answer. answer ≡ ok_or (answer_of tag) (record { 0 = tag }) };
+
+    fn try_from(tag: u8) -> Result<Answer, UnknownNumber> {
+        match tag {
+            0x30 => Ok(Answer::Sent),
+            0x31 => Ok(Answer::Reported),
+            0x32 => Ok(Answer::Refused),
+            0x33 => Ok(Answer::Done),
+            _ => Err(UnknownNumber(tag)),
+        }
+    }
+}
+
+// The number of a report of a failure, and that of a failure by expiry.
+pub const FAILURE: u8 = 3;
+
+pub const EXPIRY: u8 = 3;
 
 fn report_record(name: OwnNumber, report: Report) -> [u8; 8]
     ensures { result ≡ report_record name report }
 {
     let Report::Failure(Cause::Expiry(timer)) = report;
+    let [high, low] = name.0.to_be_bytes();
     [
-        0x31,
+        Answer::Reported as u8,
         0,
         5,
-        3,
-        (name.0 / 256) as u8,
-        (name.0 % 256) as u8,
-        3,
+        FAILURE,
+        high,
+        low,
+        EXPIRY,
         timer.number(),
     ]
 }
@@ -29,21 +62,16 @@ fn front(buffer: &[u8], size: usize) -> &[u8]
     ensures value { result.now ≡ take size buffer.now }
     ensures bound { length result.now ≤ length buffer.now }
 {
-    if size >= buffer.len() {
-        return buffer;
-    }
-    let (front, _) = buffer.split_at(size);
-    front
+    buffer.get(..size).unwrap_or(buffer)
 }
 
 fn add_sent(peer: u8, apdu: &[u8], sheet: &mut Vec<u8>) -> Result<(), AllocError>
     requires { length apdu.now ≤ 64 }
     ensures { Adds result sheet.old sheet.new (field 0x30 (peer ∷ apdu.now)) }
 {
-    let size = apdu.len() + 1;
-    sheet.extend_from_slice(&[0x30, (size / 256) as u8, (size % 256) as u8, peer])?;
-    sheet.extend_from_slice(apdu)?;
-    Ok(())
+    let [high, low] = (apdu.len() as u16 + 1).to_be_bytes();
+    sheet.extend_from_slice(&[Answer::Sent as u8, high, low, peer])?;
+    sheet.extend_from_slice(apdu)
 }
 
 // Adds the record of an outcome to the sheet.
@@ -55,11 +83,11 @@ pub(crate) fn add_record(
     ensures { Adds result sheet.old sheet.new (sheet_record outcome.now buffer.now) }
 {
     match *outcome {
-        Ok(Done::Quiet) => sheet.extend_from_slice(&[0x33, 0, 0]),
+        Ok(Done::Quiet) => sheet.extend_from_slice(&[Answer::Done as u8, 0, 0]),
         Ok(Done::Sent { peer, size }) => add_sent(peer, front(buffer, size), sheet),
         Ok(Done::Reported { name, report }) => sheet.extend_from_slice(&report_record(
             name, report,
         )),
-        Err(refusal) => sheet.extend_from_slice(&[0x32, 0, 1, refusal.number()]),
+        Err(refusal) => sheet.extend_from_slice(&[Answer::Refused as u8, 0, 1, refusal.into()]),
     }
 }

@@ -1,9 +1,10 @@
 // The records of a tape.
 ghost use Rattle.std.specs.Prelude.{◌≡◌};
-ghost use Rattle.sheet.specs.Records.{Entry, view, read_fit_out, read_link, read_initiation, read_clock, read_entry};
+ghost use Rattle.sheet.specs.Records.{seen, read_fit_out, read_link, read_initiation, read_clock, read_entry};
 
-use crate::numbers::{four, number};
+use crate::numbers::{eight, four};
 use exchange::FitOut;
+use wire::Field;
 
 #[derive(Clone, Copy)]
 pub enum Record<'a> {
@@ -19,20 +20,20 @@ pub enum Record<'a> {
     Clock {
         reading: u64,
     },
-    // An unknown tag, or a value of a wrong size.
-    Unreadable,
 }
 
-fn fit_out(value: &[u8]) -> Record<'_>
-    ensures { view result ≡ read_fit_out value.now }
+fn fit_out(value: &[u8]) -> Option<Record<'_>>
+    ensures { seen result ≡ read_fit_out value.now }
 {
     if value.len() != 27 {
-        return Record::Unreadable;
+        return None;
     }
-    if value[26] > 1 {
-        return Record::Unreadable;
-    }
-    Record::FitOut(FitOut {
+    let can_compute = match value[26] {
+        0 => false,
+        1 => true,
+        _ => return None,
+    };
+    Some(Record::FitOut(FitOut {
         t1: four(value, 0),
         t2: four(value, 4),
         t3: four(value, 8),
@@ -41,55 +42,51 @@ fn fit_out(value: &[u8]) -> Record<'_>
         tr: four(value, 20),
         home: value[24],
         server: value[25],
-        can_compute: value[26] == 1,
+        can_compute,
+    }))
+}
+
+fn link(value: &[u8]) -> Option<Record<'_>>
+    ensures { seen result ≡ read_link value.now }
+{
+    match value {
+        [peer] => Some(Record::Link { peer: *peer }),
+        _ => None,
+    }
+}
+
+fn plain_initiation(value: &[u8]) -> Option<Record<'_>>
+    ensures { seen result ≡ read_initiation value.now }
+{
+    let (reading, rest) = value.split_first_chunk::<8>()?;
+    let (peer, digits) = rest.split_first()?;
+    Some(Record::PlainInitiation {
+        reading: eight(*reading),
+        peer: *peer,
+        digits,
     })
 }
 
-fn link(value: &[u8]) -> Record<'_>
-    ensures { view result ≡ read_link value.now }
+fn clock(value: &[u8]) -> Option<Record<'_>>
+    ensures { seen result ≡ read_clock value.now }
 {
-    if value.len() != 1 {
-        return Record::Unreadable;
-    }
-    Record::Link { peer: value[0] }
-}
-
-fn plain_initiation(value: &[u8]) -> Record<'_>
-    ensures { view result ≡ read_initiation value.now }
-{
-    if value.len() < 9 {
-        return Record::Unreadable;
-    }
-    let (head, digits) = value.split_at(9);
-    Record::PlainInitiation {
-        reading: number(&head[0..8]),
-        peer: head[8],
-        digits,
-    }
-}
-
-fn clock<'a>(value: &'a [u8]) -> Record<'a>
-    ensures { view result ≡ read_clock value.now }
-{
-    if value.len() != 8 {
-        return Record::Unreadable;
-    }
-    Record::Clock {
-        reading: number(value),
-    }
+    let reading = value.try_into().ok()?;
+    Some(Record::Clock {
+        reading: eight(reading),
+    })
 }
 
 impl<'a> Record<'a> {
-    // What a tag and a value say.
-    pub fn read(tag: u8, value: &'a [u8]) -> Record<'a>
-        ensures { view result ≡ read_entry tag value.now }
+    // What a field of a tape asks. None where its tag is unknown, or its value has a wrong size.
+    pub fn read(field: Field<'a>) -> Option<Record<'a>>
+        ensures { seen result ≡ read_entry field.entry.tag field.entry.value.now }
     {
-        match tag {
-            0x10 => fit_out(value),
-            0x11 => link(value),
-            0x20 => plain_initiation(value),
-            0x26 => clock(value),
-            _ => Record::Unreadable,
+        match field.tag {
+            0x10 => fit_out(field.value),
+            0x11 => link(field.value),
+            0x20 => plain_initiation(field.value),
+            0x26 => clock(field.value),
+            _ => None,
         }
     }
 }

@@ -8,9 +8,8 @@ ghost use Rattle.sheet.specs.Lines.{refusal_record};
 ghost use Rattle.sheet.specs.Laws.{OneRecordEach};
 ghost use Rattle.sheet.specs.Run.{pieces_of, run_on, run_from, sheet_of};
 
-use crate::bench::Bench;
+use crate::bench::{Bench, enter_service};
 use crate::lines::add_record;
-use crate::record::Record;
 use exchange::{Done, Link};
 use refusal::Refusal;
 use std::alloc::AllocError;
@@ -31,15 +30,16 @@ fn run_on(
 ) -> Result<(), AllocError>
     ensures { Adds result sheet.old sheet.new (run_on (state_of bench.old) (pieces_of (unread reader.old))) }
 {
-    while !reader.is_done() {
+    while let Some(field) = reader.next() {
         let mut buffer = [0u8; 64];
-        let Some(field) = reader.next() else {
-            return add_cut(sheet);
-        };
-        let outcome = bench.take(&Record::read(field.tag, field.value), &mut buffer);
+        let outcome = bench.take(field, &mut buffer);
         add_record(&outcome, &buffer, sheet)?;
     }
-    Ok(())
+    if reader.is_done() {
+        Ok(())
+    } else {
+        add_cut(sheet)
+    }
 }
 
 // A whole tape, from its first record on.
@@ -54,7 +54,7 @@ fn run_all(tape: &[u8], sheet: &mut Vec<u8>) -> Result<(), AllocError>
     let Some(first) = reader.next() else {
         return add_cut(sheet);
     };
-    match Record::read(first.tag, first.value).enter_service() {
+    match enter_service(first) {
         Err(refusal) => add_record(&Err(refusal), &buffer, sheet),
         Ok(exchange) => {
             let mut places = [Link { peer: 0 }; 32];

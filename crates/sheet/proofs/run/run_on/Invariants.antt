@@ -7,9 +7,9 @@ use Rattle.sheet.specs.Run.{pieces_of, run_on}
 use Rattle.sheet.proofs.run.run_on.Given as goal
 
 -- some bytes were added, and with what is still to come they are the whole
-abbrev pub invariant-loop-buffer : goal.invariant-loop-buffer
-invariant-loop-buffer l =
+abbrev pub invariant-loop-field : goal.invariant-loop-field
+invariant-loop-field l =
     (a : List ℕ) × Adds {E = AllocError} (Ok tt) l.initial.sheet l.sheet a × (a ++ run_on (state_of l.bench) (pieces_of (unread l.reader)) ≡ run_on (state_of l.initial.bench) (pieces_of (unread l.initial.reader)))
 
-abbrev pub decreases-loop-buffer : goal.decreases-loop-buffer
-decreases-loop-buffer l = length (unread l.reader)
+abbrev pub decreases-loop-field : goal.decreases-loop-field
+decreases-loop-field l = length (unread l.reader)
