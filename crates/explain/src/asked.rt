@@ -6,55 +6,55 @@ use std::fmt;
 use wire::Field;
 
 #[derive(Clone, Copy)]
-pub struct Asked<'a> {
-    pub field: Field<'a>,
-    pub record: Record<'a>,
-}
+pub struct Asked<'a>(pub Field<'a>);
 
-fn show_fit_out<W: fmt::Write>(fit: &FitOut, f: &mut fmt::Formatter<W>) -> fmt::Result {
-    let FitOut {
-        t1,
-        t2,
-        t3,
-        t4,
-        t5,
-        tr,
-        home,
-        server,
-        can_compute,
-    } = *fit;
-    write!(
-        f,
-        "fit-out with T1 {t1} ms, T2 {t2} ms, T3 {t3} ms, T4 {t4} ms, T5 {t5} ms, TR {tr} ms"
-    )?;
-    write!(f, ", Home peer {home}, server peer {server}")?;
-    if can_compute {
-        write!(f, ", can compute")
-    } else {
-        write!(f, ", cannot compute")
+#[derive(Clone, Copy)]
+struct FittedOut(FitOut);
+
+impl fmt::Display for FittedOut {
+    fn fmt<W: fmt::Write>(&self, f: &mut fmt::Formatter<W>) -> fmt::Result {
+        let FitOut {
+            t1,
+            t2,
+            t3,
+            t4,
+            t5,
+            tr,
+            home,
+            server,
+            can_compute,
+        } = self.0;
+        let can = if can_compute { "can" } else { "cannot" };
+        write!(
+            f,
+            "fit-out with T1 {t1} ms, T2 {t2} ms, T3 {t3} ms, T4 {t4} ms, T5 {t5} ms, TR {tr} ms"
+        )?;
+        write!(f, ", Home peer {home}, server peer {server}, {can} compute")
     }
 }
 
 impl fmt::Display for Asked<'_> {
     fn fmt<W: fmt::Write>(&self, f: &mut fmt::Formatter<W>) -> fmt::Result {
-        match self.record {
-            Record::FitOut(fit) => show_fit_out(&fit, f),
-            Record::Link { peer } => write!(f, "link to peer {peer}"),
-            Record::PlainInitiation {
-                reading,
-                peer,
-                digits,
-            } => {
+        match Record::read(self.0) {
+            Some(Record::FitOut(fit)) => write!(f, "{}", FittedOut(fit)),
+            Some(Record::Link { peer }) => write!(f, "link to peer {peer}"),
+            Some(
+                Record::PlainInitiation {
+                    reading,
+                    peer,
+                    digits,
+                },
+            ) => {
                 let user = Digits { text: digits };
                 write!(
                     f,
                     "at {reading} ms, plain initiation to peer {peer} for user {user}"
                 )
             }
-            Record::Clock { reading } => write!(f, "at {reading} ms, clock"),
-            Record::Unreadable => {
-                let tag = self.field.tag;
-                let size = self.field.value.len();
+            Some(Record::Clock { reading }) => write!(f, "at {reading} ms, clock"),
+            None => {
+                let Field { tag, value } = self.0;
+                let size = value.len();
                 write!(f, "record with tag {tag:02X} of size {size}")
             }
         }

@@ -1,87 +1,106 @@
 // What came of a record, in words, from the record of the sheet.
 use crate::digits::Digits;
 use refusal::Refusal;
+use sheet::{Answer, EXPIRY, FAILURE};
 use std::fmt;
-use wire::{Field, Reader};
+use wire::{Field, Kind, Operation, Reader};
 
 #[derive(Clone, Copy)]
-pub struct Came<'a> {
-    pub outcome: Field<'a>,
-}
+pub struct Came<'a>(pub Field<'a>);
 
-// The fields of an APDU, each by its name.
-fn show_field<W: fmt::Write>(field: &Field<'_>, f: &mut fmt::Formatter<W>) -> fmt::Result {
-    match (field.tag, field.value) {
-        (1, [1]) => write!(f, "kind invoke"),
-        (2, [high, low]) => {
-            let id = *high as u16 * 256 + *low as u16;
-            write!(f, "invoke id {id}")
-        }
-        (3, [1]) => write!(f, "operation authWtmUser"),
-        (4, text) => {
-            let user = Digits { text };
-            write!(f, "user number {user}")
-        }
-        (tag, value) => {
-            let size = value.len();
-            write!(f, "field {tag:02X} of size {size}")
+// A field of an APDU, by its name.
+#[derive(Clone, Copy)]
+struct Named<'a>(Field<'a>);
+
+// An APDU, field by field.
+#[derive(Clone, Copy)]
+struct Sent<'a>(&'a [u8]);
+
+// What is reported of a dialogue.
+#[derive(Clone, Copy)]
+struct Reported<'a>(&'a [u8]);
+
+// A timer by its number.
+#[derive(Clone, Copy)]
+struct Timed(u8);
+
+// A refusal by its number.
+#[derive(Clone, Copy)]
+struct Refused(u8);
+
+impl fmt::Display for Named<'_> {
+    fn fmt<W: fmt::Write>(&self, f: &mut fmt::Formatter<W>) -> fmt::Result {
+        match (self.0.tag, self.0.value) {
+            (1, [1]) => write!(f, "kind invoke"),
+            (2, [high, low]) => {
+                let id = u16::from_be_bytes([*high, *low]);
+                write!(f, "invoke id {id}")
+            }
+            (3, [1]) => write!(f, "operation authWtmUser"),
+            (4, text) => {
+                let user = Digits { text };
+                write!(f, "user number {user}")
+            }
+            (tag, value) => {
+                let size = value.len();
+                write!(f, "field {tag:02X} of size {size}")
+            }
         }
     }
 }
 
-fn show_apdu<W: fmt::Write>(apdu: &[u8], f: &mut fmt::Formatter<W>) -> fmt::Result {
-    let mut fields = Reader::new(apdu);
-    for _ in 0..apdu.len() {
-        let Some(field) = fields.next() else {
-            break;
-        };
-        write!(f, ", ")?;
-        show_field(&field, f)?;
-    }
-    Ok(())
-}
-
-fn show_timer<W: fmt::Write>(number: u8, f: &mut fmt::Formatter<W>) -> fmt::Result {
-    if number == 6 {
-        write!(f, "TR")
-    } else {
-        write!(f, "T{number}")
-    }
-}
-
-fn show_report<W: fmt::Write>(report: &[u8], f: &mut fmt::Formatter<W>) -> fmt::Result {
-    match report {
-        [3, high, low, 3, timer] => {
-            let name = *high as u16 * 256 + *low as u16;
-            write!(
-                f,
-                "dialogue {name} is closed and its failure reported, by expiry of "
-            )?;
-            show_timer(*timer, f)
+impl fmt::Display for Sent<'_> {
+    fn fmt<W: fmt::Write>(&self, f: &mut fmt::Formatter<W>) -> fmt::Result {
+        for field in Reader::new(self.0) {
+            write!(f, ", {}", Named(field))?;
         }
-        _ => write!(f, "reported"),
+        Ok(())
     }
 }
 
-fn show_refusal<W: fmt::Write>(number: u8, f: &mut fmt::Formatter<W>) -> fmt::Result {
-    match Refusal::from_number(number) {
-        Some(refusal) => {
-            let name = refusal.name();
-            write!(f, "refused with {number}, {name}")
+impl fmt::Display for Timed {
+    fn fmt<W: fmt::Write>(&self, f: &mut fmt::Formatter<W>) -> fmt::Result {
+        match self.0 {
+            6 => write!(f, "TR"),
+            number => write!(f, "T{number}"),
         }
-        None => write!(f, "refused with {number}"),
+    }
+}
+
+impl fmt::Display for Reported<'_> {
+    fn fmt<W: fmt::Write>(&self, f: &mut fmt::Formatter<W>) -> fmt::Result {
+        match self.0 {
+            [FAILURE, high, low, EXPIRY, timer] => {
+                let name = u16::from_be_bytes([*high, *low]);
+                write!(
+                    f,
+                    "dialogue {name} is closed and its failure reported, by expiry of {}",
+                    Timed(*timer)
+                )
+            }
+            _ => write!(f, "reported"),
+        }
+    }
+}
+
+impl fmt::Display for Refused {
+    fn fmt<W: fmt::Write>(&self, f: &mut fmt::Formatter<W>) -> fmt::Result {
+        let number = self.0;
+        match Refusal::try_from(number) {
+            Ok(refusal) => write!(f, "refused with {number}, {refusal}"),
+            Err(_) => write!(f, "refused with {number}"),
+        }
     }
 }
 
 impl fmt::Display for Came<'_> {
     fn fmt<W: fmt::Write>(&self, f: &mut fmt::Formatter<W>) -> fmt::Result {
-        match (self.outcome.tag, self.outcome.value) {
-            (0x30, [peer, apdu @ ..]) => {
-                write!(f, "sent to peer {peer}")?;
-                show_apdu(apdu, f)
+        match (Answer::try_from(self.0.tag), self.0.value) {
+            (Ok(Answer::Sent), [peer, apdu @ ..]) => {
+                write!(f, "sent to peer {peer}{}", Sent(apdu))
             }
-            (0x31, report) => show_report(report, f),
-            (0x32, [number]) => show_refusal(*number, f),
+            (Ok(Answer::Reported), report) => write!(f, "{}", Reported(report)),
+            (Ok(Answer::Refused), [number]) => write!(f, "{}", Refused(*number)),
             _ => write!(f, "done"),
         }
     }

@@ -1,18 +1,9 @@
 // The digits of a user number, in words.
-use std::fmt;
+use std::{fmt, str};
 
 #[derive(Clone, Copy)]
 pub struct Digits<'a> {
     pub text: &'a [u8],
-}
-
-fn is_digits(text: &[u8]) -> bool {
-    for b in text {
-        if !b.is_ascii_digit() {
-            return false;
-        }
-    }
-    !text.is_empty()
 }
 
 impl fmt::Display for Digits<'_> {
@@ -20,17 +11,15 @@ impl fmt::Display for Digits<'_> {
         if self.text.is_empty() {
             return write!(f, "without digits");
         }
-        if is_digits(self.text) {
-            for b in self.text {
-                let digit = *b as char;
-                write!(f, "{digit}")?;
+        match str::from_utf8(self.text) {
+            Ok(digits) if self.text.iter().all(u8::is_ascii_digit) => f.write_str(digits),
+            _ => {
+                write!(f, "of bytes")?;
+                for b in self.text {
+                    write!(f, " {b:02X}")?;
+                }
+                Ok(())
             }
-            return Ok(());
         }
-        write!(f, "of bytes")?;
-        for b in self.text {
-            write!(f, " {b:02X}")?;
-        }
-        Ok(())
     }
 }

@@ -7,7 +7,7 @@ mod digits;
 
 use asked::Asked;
 use came::Came;
-use sheet::{Record, sheet};
+use sheet::sheet;
 use std::io;
 use std::io::Read;
 use wire::Reader;
@@ -15,20 +15,10 @@ use wire::Reader;
 // A sheet has one record for each record of its tape, up to where the run ends.
 fn explain(rt: &HostRuntime, tape: &[u8], made: &[u8]) -> io::Result<()> {
     let mut records = Reader::new(tape);
-    let mut outcomes = Reader::new(made);
-    for _ in 0..made.len() {
-        let Some(outcome) = outcomes.next() else {
-            break;
-        };
-        let came = Came { outcome };
+    for outcome in Reader::new(made) {
+        let came = Came(outcome);
         match records.next() {
-            Some(field) => {
-                let asked = Asked {
-                    field,
-                    record: Record::read(field.tag, field.value),
-                };
-                println!(rt; "{asked}: {came}")?;
-            }
+            Some(field) => println!(rt; "{}: {came}", Asked(field))?,
             None => println!(rt; "cut record: {came}")?,
         }
     }

@@ -12,15 +12,8 @@ use wire::Reader;
 fn main(rt: HostRuntime) -> anyhow::Result<()> {
     let mut input = Vec::new(rt.alloc());
     rt.stdin().read_to_end(&mut input)?;
-    let mut strings = Reader::new(&input);
-    for _ in 0..input.len() {
-        let Some(string) = strings.next() else {
-            break;
-        };
-        let verdict = Verdict {
-            received: apdu::read(string.value),
-        };
-        println!(rt; "{verdict}")?;
+    for string in Reader::new(&input) {
+        println!(rt; "{}", Verdict(apdu::read(string.value)))?;
     }
     Ok(())
 }

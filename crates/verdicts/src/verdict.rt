@@ -1,41 +1,39 @@
 // What a string is, in words.
-use apdu::{Apdu, Received};
+use apdu::{Apdu, NoApdu};
 use std::fmt;
 
 #[derive(Clone, Copy)]
-pub struct Verdict {
-    pub received: Received,
-}
+pub struct Verdict(pub Result<Apdu, NoApdu>);
 
-// The APDU as it is written, in hexadecimal.
-fn show_apdu<W: fmt::Write>(apdu: &Apdu, f: &mut fmt::Formatter<W>) -> fmt::Result {
-    let mut out = [0u8; 64];
-    match apdu::write(apdu, &mut out) {
-        Ok(size) => {
-            write!(f, "APDU: ")?;
-            for (place, b) in out.iter().enumerate() {
-                if place < size {
+// An APDU as it is written, in hexadecimal.
+#[derive(Clone, Copy)]
+struct Written<'a>(&'a Apdu);
+
+impl fmt::Display for Written<'_> {
+    fn fmt<W: fmt::Write>(&self, f: &mut fmt::Formatter<W>) -> fmt::Result {
+        let mut out = [0u8; 64];
+        match apdu::write(self.0, &mut out) {
+            Ok(size) => {
+                write!(f, "APDU: ")?;
+                for b in out.iter().take(size) {
                     write!(f, "{b:02X}")?;
                 }
+                Ok(())
             }
-            Ok(())
-        }
-        Err(refusal) => {
-            let name = refusal.name();
-            write!(f, "APDU that is not written back: {name}")
+            Err(refusal) => write!(f, "APDU that is not written back: {refusal}"),
         }
     }
 }
 
 impl fmt::Display for Verdict {
     fn fmt<W: fmt::Write>(&self, f: &mut fmt::Formatter<W>) -> fmt::Result {
-        match &self.received {
-            Received::Apdu(apdu) => show_apdu(apdu, f),
-            Received::RejectDue { id, problem } => {
-                let number = problem.number();
+        match &self.0 {
+            Ok(apdu) => write!(f, "{}", Written(apdu)),
+            Err(NoApdu::RejectDue { id, problem }) => {
+                let number = u8::from(*problem);
                 write!(f, "reject due: id {id}, problem {number}")
             }
-            Received::Garbled => write!(f, "garbled"),
+            Err(NoApdu::Garbled) => write!(f, "garbled"),
         }
     }
 }
