@@ -1,14 +1,10 @@
 -- Of the dialogues that have ended, the fold over the places finds the one that precedes every other. Assumes nothing.
-use Rattle.std.proofs.Common.{◌≡◌, ℕ, ◌+◌, ◌<◌, ◌≤◌, true, false, cond, leb, ◌⊎◌, List, [], ◌∷◌, length, IfSome, Some, None, Option, sym, refl, ◌∙◌, subst, inl, inr, ⊎_elim, arith}
+use Rattle.std.proofs.Common.{◌≡◌, ℕ, ◌+◌, ◌<◌, ◌≤◌, true, false, cond, leb, ◌⊎◌, List, [], ◌∷◌, IfSome, Some, None, Option, sym, refl, ◌∙◌, subst, inl, inr, ⊎_elim, arith}
 use Rattle.std.proofs.lemmas.Bool.{cond_both, leb-true, leb-false}
 use Rattle.std.proofs.lemmas.Bool.Decides.{nat_tests}
 use Rattle.exchange.specs.declared.dialogue.Dialogue.{Dialogue}
-use Rattle.exchange.specs.declared.service.Service.{Service}
-use Rattle.exchange.specs.Service.{timely}
 use Rattle.exchange.specs.Table.{ends_by, earlier, sooner, soonest, first_ended}
-use Rattle.exchange.specs.Calls.{After, clocked, clocked_by}
-use Rattle.exchange.specs.Laws.{Has, Precedes, NoneEnded, EndsFirst, Earliest}
-use Rattle.exchange.proofs.Refused.{by_both}
+use Rattle.exchange.specs.Laws.{Has, Precedes, NoneEnded, EndsFirst}
 
 precedes_itself : (d : Dialogue) → Precedes d d
 precedes_itself d = inr (refl, omega arith)
@@ -104,12 +100,5 @@ first_ended_finds reading slots =
     (λ e m. inr (e, inr m, precedes_itself e))
     (soonest_finds reading slots 0 None tt)
 
-module _ (s : Service) (reading : ℕ) (out : List ℕ) where
-  clocked_by_earliest : (found : Option (ℕ × Dialogue)) → Finds reading s.dialogues found → Earliest s reading (clocked_by s reading out found).result
-  clocked_by_earliest None h = h
-  clocked_by_earliest (Some (place, d)) h = (d, refl, h)
-
-  pub clocked_earliest : (a : After) → a ≡ clocked s reading out → Earliest s reading a.result
-  clocked_earliest a e =
-      let L : After → Type 0 = λ b. Earliest s reading b.result in
-      subst L (sym e) (by_both L _ _ (timely s reading (length out)) (λ _. clocked_by_earliest _ (first_ended_finds reading s.dialogues)) (λ _. tt))
+pub first_ended_is : (reading : ℕ) (slots : List (Option Dialogue)) (found : Option (ℕ × Dialogue)) → first_ended reading slots ≡ found → Finds reading slots found
+first_ended_is reading slots found e = subst (Finds reading slots) e (first_ended_finds reading slots)

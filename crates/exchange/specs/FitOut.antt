@@ -1,5 +1,6 @@
 -- Timers and the fit-out.
-use Rattle.std.specs.Prelude.{ℕ, Bool, ◌&&◌, nat_le}
+use Rattle.std.specs.Prelude.{ℕ, Bool, ◌&&◌, [], ◌∷◌, nat_le}
+use Rattle.std.specs.List.{list_all}
 use Rattle.exchange.specs.declared.fit_out.FitOut.{FitOut}
 use Rattle.exchange.specs.declared.fit_out.Timer.{Timer}
 use Rattle.exchange.specs.declared.fit_out.Timer.TheVariants.{T1, T2, T3, T4, T5, Tr}
@@ -25,8 +26,10 @@ duration f Tr = f.tr
 abbrev pub within : ℕ → ℕ → ℕ → Bool
 within low high n = nat_le low n && nat_le n high
 
+-- the timers of dialogues with peers are in their range
+abbrev pub peer_timers_fit : FitOut → Bool
+peer_timers_fit f = list_all (within 15000 60000) (f.t1 ∷ f.t2 ∷ f.t3 ∷ f.t4 ∷ f.t5 ∷ [])
+
 -- every value is in its range
 abbrev pub fitted : FitOut → Bool
-fitted f =
-    within 15000 60000 f.t1 && within 15000 60000 f.t2 && within 15000 60000 f.t3 && within 15000 60000 f.t4 && within 15000 60000 f.t5
-    && within 1000 60000 f.tr && nat_le 1 f.home && nat_le 1 f.server
+fitted f = peer_timers_fit f && within 1000 60000 f.tr && nat_le 1 f.home && nat_le 1 f.server

@@ -4,13 +4,13 @@ ghost use Rattle.exchange.specs.FitOut.{timer_number, duration};
 
 #[derive(Clone, Copy)]
 pub enum Timer {
-    T1,
-    T2,
-    T3,
-    T4,
-    T5,
+    T1 = 1,
+    T2 = 2,
+    T3 = 3,
+    T4 = 4,
+    T5 = 5,
     // The timer of the radio side.
-    Tr,
+    Tr = 6,
 }
 
 // Times are in milliseconds.
@@ -29,19 +29,12 @@ pub struct FitOut {
     pub can_compute: bool,
 }
 
-impl Timer {
-    // The number under which its expiry is reported.
-    pub fn number(self) -> u8
-        ensures { result ≡ timer_number self }
-    {
-        match self {
-            Timer::T1 => 1,
-            Timer::T2 => 2,
-            Timer::T3 => 3,
-            Timer::T4 => 4,
-            Timer::T5 => 5,
-            Timer::Tr => 6,
-        }
+// The number under which a timer's expiry is reported.
+impl From<Timer> for u8 {
+    ghost from_gives = { λ timer n. n ≡ timer_number timer };
+
+    fn from(timer: Timer) -> u8 {
+        timer as u8
     }
 }
 

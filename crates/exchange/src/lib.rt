@@ -8,7 +8,6 @@ mod fit_out;
 mod in_service;
 mod link;
 mod outcome;
-mod search;
 mod service;
 mod table;
 

@@ -20,7 +20,7 @@ fn report_record(name: OwnNumber, report: Report) -> [u8; 8]
         (name.0 / 256) as u8,
         (name.0 % 256) as u8,
         3,
-        timer.number(),
+        u8::from(timer),
     ]
 }
 
