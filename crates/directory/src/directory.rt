@@ -9,8 +9,8 @@ use crate::keyed::{Blank, Keyed, lookup};
 use refusal::Refusal;
 
 // The first `count` places are in use, and those behind them are free.
-// A rule of the project asks for a lent slice with its count. It has no ghost field that bounds the count: the clauses below
-// name directories as records of these two fields, and each would have to carry a proof of the bound.
+// Slice and count are a rule of the project. A ghost field that bounds the count is no plainer: `stored` and `vacated` make
+// directories of the two fields, and would have to carry a proof of the bound.
 #[derive(Drop)]
 pub struct Directory<'a, R> {
     records: &'a mut [R],
@@ -100,12 +100,14 @@ fn take_out<R: Copy>(places: &mut [R], at: usize, count: usize, blank: R)
     requires within { count ≤ length places.old }
     ensures { places.new ≡ remove (take count places.old) at ++ blank ∷ drop count places.old }
 {
-    places[at] = blank;
-    places[at..count].rotate_left(1);
+    let used = &mut places[..count];
+    used[at] = blank;
+    used[at..].rotate_left(1);
 }
 
 impl<'a, R: Keyed + Blank + Copy> Directory<'a, R> {
-    // Removes the first record with the key, and frees its place. None where no record has the key, and then nothing changes.
+    // Removes the first record with the key, and frees its place. None where no record has the key, and then nothing changes:
+    // a rule of the project, since the list of refusals has none for it while no call removes a record.
     pub fn remove(&mut self, key: u64) -> Option<()>
         ensures answer { result ≡ remove_answer nat_eq R.keyed (contents self.old) key }
         ensures list { contents self.new ≡ remove_list nat_eq R.keyed (contents self.old) key }
