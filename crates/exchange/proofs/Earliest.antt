@@ -18,9 +18,6 @@ earlier_precedes a b e = grind (arith, nat_tests)
 else_precedes : (a b : Dialogue) → earlier a b ≡ false → Precedes b a
 else_precedes a b e = grind (arith, nat_tests)
 
-none_some : {X : Type 0} {x : X} → None ≡ Some x → ⊥
-none_some e = let z : ◌≡◌ {A = ℕ} 0 1 = cc in omega arith
-
 -- the dialogue of the best so far, as at a place
 abbrev slot_of : Option (ℕ × Dialogue) → Option Dialogue
 slot_of None = None
@@ -55,7 +52,7 @@ module _ (reading : ℕ) (ss : List (Option Dialogue)) where
   later_itself x e p = inr (e, inl p, precedes_itself e)
 
   free_later : (x : Option Dialogue) → SlotLater x None
-  free_later x e p = absurd (none_some p)
+  free_later x e p = cc
 
   other_later : (a b : Dialogue) → Precedes a b → SlotLater (Some a) (Some b)
   other_later a b h e p = let q : b ≡ e = cc in inr (a, inl refl, rw q at h)
@@ -89,14 +86,14 @@ module _ (reading : ℕ) (ss : List (Option Dialogue)) where
       (λ t. (k, λ found. finds_both (slot_of best) (slot_of best) (Some d) found (inl refl) (later_itself (slot_of best)) (running_later (slot_of best) d (leb-false d.ends reading t))))
 
 soonest_finds : (reading : ℕ) (ss : List (Option Dialogue)) (i : ℕ) (best : Option (ℕ × Dialogue)) → Ended reading best → Finds reading (slot_of best ∷ ss) (soonest reading i best ss)
-soonest_finds reading [] i None k = λ e. ⊎_elim (λ p. absurd (none_some p)) absurd
+soonest_finds reading [] i None k = λ e. ⊎_elim (λ p. cc) absurd
 soonest_finds reading [] i (Some (j, b)) k = (inl refl, k, λ e. ⊎_elim (λ p. let q : b ≡ e = cc in rw q (precedes_itself e)) absurd)
 soonest_finds reading (s ∷ ss) i best k = let t = turn reading ss i s best k in t.1 _ (soonest_finds reading ss (i + 1) _ t.0)
 
 first_ended_finds : (reading : ℕ) (slots : List (Option Dialogue)) → Finds reading slots (first_ended reading slots)
 first_ended_finds reading slots =
     finds_more reading (None ∷ slots) slots (first_ended reading slots)
-    (λ d. ⊎_elim (λ p. absurd (none_some p)) (λ m. m))
+    (λ d. ⊎_elim (λ p. cc) (λ m. m))
     (λ e m. inr (e, inr m, precedes_itself e))
     (soonest_finds reading slots 0 None tt)
 
