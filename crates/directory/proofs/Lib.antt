@@ -1,2 +1,1 @@
-mod Closing
 mod Removing

@@ -5,10 +5,12 @@ ghost use Rattle.directory.specs.Found.{first_at, first_with};
 ghost use Rattle.directory.specs.Steps.{known, add_answer, add_list, remove_answer, remove_list};
 ghost use Rattle.directory.specs.Changes.{taken_out};
 
-use crate::keyed::{Blank, Keyed, first_with, lookup};
+use crate::keyed::{Blank, Keyed, lookup};
 use refusal::Refusal;
 
 // The first `count` places are in use, and those behind them are free.
+// Slice and count are a rule of the project. A ghost field that bounds the count is no plainer: `stored` and `vacated` make
+// directories of the two fields, and would have to carry a proof of the bound.
 #[derive(Drop)]
 pub struct Directory<'a, R> {
     records: &'a mut [R],
@@ -29,11 +31,7 @@ impl<'a, R> Directory<'a, R> {
     pub fn used(&self) -> &[R]
         ensures { result.now ≡ contents self.now }
     {
-        if self.count < self.records.len() {
-            &self.records[0..self.count]
-        } else {
-            self.records
-        }
+        &self.records[..self.count.min(self.records.len())]
     }
 }
 
@@ -58,8 +56,7 @@ impl<'a, R: Keyed + Copy> Directory<'a, R> {
     pub fn get(&self, key: u64) -> Option<R>
         ensures { result ≡ first_with nat_eq R.keyed (contents self.now) key }
     {
-        let (_, item) = first_with(self.used(), key)?;
-        Some(*item)
+        self.used().iter().find(|item| item.key() == key).copied()
     }
 
     // Adds a record at the end. It refuses a key that is there, then a directory that is full, and a refusal changes nothing.
@@ -103,12 +100,14 @@ fn take_out<R: Copy>(places: &mut [R], at: usize, count: usize, blank: R)
     requires within { count ≤ length places.old }
     ensures { places.new ≡ remove (take count places.old) at ++ blank ∷ drop count places.old }
 {
-    places[at] = blank;
-    places[at..count].rotate_left(1);
+    let used = &mut places[..count];
+    used[at] = blank;
+    used[at..].rotate_left(1);
 }
 
 impl<'a, R: Keyed + Blank + Copy> Directory<'a, R> {
-    // Removes the first record with the key, and frees its place. None where no record has the key, and then nothing changes.
+    // Removes the first record with the key, and frees its place. None where no record has the key, and then nothing changes:
+    // a rule of the project, since the list of refusals has none for it while no call removes a record.
     pub fn remove(&mut self, key: u64) -> Option<()>
         ensures answer { result ≡ remove_answer nat_eq R.keyed (contents self.old) key }
         ensures list { contents self.new ≡ remove_list nat_eq R.keyed (contents self.old) key }

@@ -1,14 +1,10 @@
 -- Of the dialogues that have ended, the fold over the places finds the one that precedes every other. Assumes nothing.
-use Rattle.std.proofs.Common.{◌≡◌, ℕ, ◌+◌, ◌<◌, ◌≤◌, true, false, cond, leb, ◌⊎◌, List, [], ◌∷◌, length, IfSome, Some, None, Option, sym, refl, ◌∙◌, subst, inl, inr, ⊎_elim, arith}
+use Rattle.std.proofs.Common.{◌≡◌, ℕ, ◌+◌, ◌<◌, ◌≤◌, true, false, cond, leb, ◌⊎◌, List, [], ◌∷◌, IfSome, Some, None, Option, sym, refl, ◌∙◌, subst, inl, inr, ⊎_elim, arith}
 use Rattle.std.proofs.lemmas.Bool.{cond_both, leb-true, leb-false}
 use Rattle.std.proofs.lemmas.Bool.Decides.{nat_tests}
 use Rattle.exchange.specs.declared.dialogue.Dialogue.{Dialogue}
-use Rattle.exchange.specs.declared.service.Service.{Service}
-use Rattle.exchange.specs.Service.{timely}
 use Rattle.exchange.specs.Table.{ends_by, earlier, sooner, soonest, first_ended}
-use Rattle.exchange.specs.Calls.{After, clocked, clocked_by}
-use Rattle.exchange.specs.Laws.{Has, Precedes, NoneEnded, EndsFirst, Earliest}
-use Rattle.exchange.proofs.Refused.{by_both}
+use Rattle.exchange.specs.Laws.{Has, Precedes, NoneEnded, EndsFirst}
 
 precedes_itself : (d : Dialogue) → Precedes d d
 precedes_itself d = inr (refl, omega arith)
@@ -21,9 +17,6 @@ earlier_precedes a b e = grind (arith, nat_tests)
 
 else_precedes : (a b : Dialogue) → earlier a b ≡ false → Precedes b a
 else_precedes a b e = grind (arith, nat_tests)
-
-none_some : {X : Type 0} {x : X} → None ≡ Some x → ⊥
-none_some e = let z : ◌≡◌ {A = ℕ} 0 1 = cc in omega arith
 
 -- the dialogue of the best so far, as at a place
 abbrev slot_of : Option (ℕ × Dialogue) → Option Dialogue
@@ -59,7 +52,7 @@ module _ (reading : ℕ) (ss : List (Option Dialogue)) where
   later_itself x e p = inr (e, inl p, precedes_itself e)
 
   free_later : (x : Option Dialogue) → SlotLater x None
-  free_later x e p = absurd (none_some p)
+  free_later x e p = cc
 
   other_later : (a b : Dialogue) → Precedes a b → SlotLater (Some a) (Some b)
   other_later a b h e p = let q : b ≡ e = cc in inr (a, inl refl, rw q at h)
@@ -93,23 +86,16 @@ module _ (reading : ℕ) (ss : List (Option Dialogue)) where
       (λ t. (k, λ found. finds_both (slot_of best) (slot_of best) (Some d) found (inl refl) (later_itself (slot_of best)) (running_later (slot_of best) d (leb-false d.ends reading t))))
 
 soonest_finds : (reading : ℕ) (ss : List (Option Dialogue)) (i : ℕ) (best : Option (ℕ × Dialogue)) → Ended reading best → Finds reading (slot_of best ∷ ss) (soonest reading i best ss)
-soonest_finds reading [] i None k = λ e. ⊎_elim (λ p. absurd (none_some p)) absurd
+soonest_finds reading [] i None k = λ e. ⊎_elim (λ p. cc) absurd
 soonest_finds reading [] i (Some (j, b)) k = (inl refl, k, λ e. ⊎_elim (λ p. let q : b ≡ e = cc in rw q (precedes_itself e)) absurd)
 soonest_finds reading (s ∷ ss) i best k = let t = turn reading ss i s best k in t.1 _ (soonest_finds reading ss (i + 1) _ t.0)
 
 first_ended_finds : (reading : ℕ) (slots : List (Option Dialogue)) → Finds reading slots (first_ended reading slots)
 first_ended_finds reading slots =
     finds_more reading (None ∷ slots) slots (first_ended reading slots)
-    (λ d. ⊎_elim (λ p. absurd (none_some p)) (λ m. m))
+    (λ d. ⊎_elim (λ p. cc) (λ m. m))
     (λ e m. inr (e, inr m, precedes_itself e))
     (soonest_finds reading slots 0 None tt)
 
-module _ (s : Service) (reading : ℕ) (out : List ℕ) where
-  clocked_by_earliest : (found : Option (ℕ × Dialogue)) → Finds reading s.dialogues found → Earliest s reading (clocked_by s reading out found).result
-  clocked_by_earliest None h = h
-  clocked_by_earliest (Some (place, d)) h = (d, refl, h)
-
-  pub clocked_earliest : (a : After) → a ≡ clocked s reading out → Earliest s reading a.result
-  clocked_earliest a e =
-      let L : After → Type 0 = λ b. Earliest s reading b.result in
-      subst L (sym e) (by_both L _ _ (timely s reading (length out)) (λ _. clocked_by_earliest _ (first_ended_finds reading s.dialogues)) (λ _. tt))
+pub first_ended_is : (reading : ℕ) (slots : List (Option Dialogue)) (found : Option (ℕ × Dialogue)) → first_ended reading slots ≡ found → Finds reading slots found
+first_ended_is reading slots found e = subst (Finds reading slots) e (first_ended_finds reading slots)

@@ -1,3 +1,1 @@
-mod Soonest
-mod Refused
 mod Earliest

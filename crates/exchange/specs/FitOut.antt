@@ -1,5 +1,6 @@
 -- Timers and the fit-out.
-use Rattle.std.specs.Prelude.{ℕ, Bool, ◌&&◌, nat_le}
+use Rattle.std.specs.Prelude.{ℕ, Bool, ◌&&◌, [], ◌∷◌, Option, find, ◌==◌, nat_le}
+use Rattle.std.specs.List.{list_all}
 use Rattle.exchange.specs.declared.fit_out.FitOut.{FitOut}
 use Rattle.exchange.specs.declared.fit_out.Timer.{Timer}
 use Rattle.exchange.specs.declared.fit_out.Timer.TheVariants.{T1, T2, T3, T4, T5, Tr}
@@ -13,6 +14,10 @@ timer_number T4 = 4
 timer_number T5 = 5
 timer_number Tr = 6
 
+-- the timer with a number
+abbrev pub timer_of_number : ℕ → Option Timer
+timer_of_number n = find (λ t. timer_number t == n) (T1 ∷ T2 ∷ T3 ∷ T4 ∷ T5 ∷ Tr ∷ [])
+
 -- how long a timer runs, in milliseconds
 abbrev pub duration : FitOut → Timer → ℕ
 duration f T1 = f.t1
@@ -25,8 +30,10 @@ duration f Tr = f.tr
 abbrev pub within : ℕ → ℕ → ℕ → Bool
 within low high n = nat_le low n && nat_le n high
 
+-- the timers of dialogues with peers are in their range
+abbrev pub peer_timers_fit : FitOut → Bool
+peer_timers_fit f = list_all (within 15000 60000) (f.t1 ∷ f.t2 ∷ f.t3 ∷ f.t4 ∷ f.t5 ∷ [])
+
 -- every value is in its range
 abbrev pub fitted : FitOut → Bool
-fitted f =
-    within 15000 60000 f.t1 && within 15000 60000 f.t2 && within 15000 60000 f.t3 && within 15000 60000 f.t4 && within 15000 60000 f.t5
-    && within 1000 60000 f.tr && nat_le 1 f.home && nat_le 1 f.server
+fitted f = peer_timers_fit f && within 1000 60000 f.tr && nat_le 1 f.home && nat_le 1 f.server

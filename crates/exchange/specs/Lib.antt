@@ -1,6 +1,5 @@
 pub mod FitOut
 pub mod Dialogue
-pub mod Search
 pub mod Table
 pub mod Link
 pub mod Service

@@ -1,7 +1,7 @@
 -- The places for dialogues.
-use Rattle.std.specs.Prelude.{ℕ, ◌+◌, Bool, true, false, cond, ◌&&◌, ◌||◌, List, [], ◌∷◌, is_some, Some, None, Option, ◌==◌, nat_le, nat_lt}
+use Rattle.std.specs.Prelude.{ℕ, ◌+◌, Bool, true, false, cond, ◌&&◌, ◌||◌, List, [], ◌∷◌, Some, None, Option, ◌==◌, nat_le, nat_lt, position}
 use Rattle.exchange.specs.declared.dialogue.Dialogue.{Dialogue}
-use Rattle.exchange.specs.Search.{place}
+use Rattle.std.specs.List.{list_any}
 
 -- a dialogue's timer ends at or before the reading
 abbrev pub ends_by : ℕ → Option Dialogue → Bool
@@ -10,7 +10,7 @@ ends_by reading (Some d) = nat_le d.ends reading
 
 -- some timer does
 abbrev pub due : ℕ → List (Option Dialogue) → Bool
-due reading slots = is_some (place (ends_by reading) slots)
+due reading slots = list_any (ends_by reading) slots
 
 abbrev pub is_free : Option Dialogue → Bool
 is_free None = true
@@ -18,7 +18,7 @@ is_free (Some d) = false
 
 -- the first free place
 abbrev pub free_place : List (Option Dialogue) → Option ℕ
-free_place slots = place is_free slots
+free_place slots = position is_free slots
 
 -- a's timer ends before b's, or with it where a has the lower name
 abbrev pub earlier : Dialogue → Dialogue → Bool

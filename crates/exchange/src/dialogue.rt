@@ -1,12 +1,13 @@
 // A dialogue and its step.
-ghost use Rattle.std.specs.Prelude.{◌≡◌};
+ghost use Rattle.std.specs.Prelude.{◌≡◌, Some};
+ghost use Rattle.exchange.specs.Table.{ends_by, earlier};
 ghost use Rattle.exchange.specs.Dialogue.{timer_of, stepped};
 
 use crate::fit_out::Timer;
 use crate::outcome::{Cause, Report};
 
 // A number of this exchange: a dialogue's name, and the id of an invoke that we send.
-#[derive(Clone, Copy)]
+#[derive(Clone, Copy, PartialEq, Eq, PartialOrd, Ord)]
 pub struct OwnNumber(pub u16);
 
 #[derive(Clone, Copy)]
@@ -48,6 +49,20 @@ impl State {
 }
 
 impl Dialogue {
+    // Whether its timer ends at or before the reading.
+    pub(crate) fn has_ended(&self, reading: u64) -> bool
+        ensures { result ≡ ends_by reading (Some self.now) }
+    {
+        self.ends <= reading
+    }
+
+    // Whether its timer ends before the other's, or with it where it has the lower name.
+    pub(crate) fn ends_before(&self, other: &Dialogue) -> bool
+        ensures { result ≡ earlier self.now other.now }
+    {
+        (self.ends, self.name) < (other.ends, other.name)
+    }
+
     // State and event together decide the step.
     pub(crate) fn step(&self, event: Event) -> Step
         ensures { result ≡ stepped self.now event }

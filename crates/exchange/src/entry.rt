@@ -1,6 +1,6 @@
 // The entry into service.
 ghost use Rattle.std.specs.Prelude.{◌≡◌};
-ghost use Rattle.exchange.specs.FitOut.{within, fitted};
+ghost use Rattle.exchange.specs.FitOut.{peer_timers_fit, fitted};
 ghost use Rattle.exchange.specs.Entry.{entered, service_of};
 
 use crate::fit_out::FitOut;
@@ -8,22 +8,21 @@ use crate::in_service::Exchange;
 use crate::service::Service;
 use refusal::Refusal;
 
-fn lies_within(low: u32, high: u32, value: u32) -> bool
-    ensures { result ≡ within low high value }
-{
-    low <= value && value <= high
-}
-
 impl FitOut {
+    // Whether the timers of dialogues with peers are in their range.
+    fn are_peer_timers_lawful(&self) -> bool
+        ensures { result ≡ peer_timers_fit self.now }
+    {
+        [self.t1, self.t2, self.t3, self.t4, self.t5]
+            .iter()
+            .all(|time| (15_000..=60_000).contains(time))
+    }
+
     fn is_lawful(&self) -> bool
         ensures { result ≡ fitted self.now }
     {
-        lies_within(15_000, 60_000, self.t1)
-            && lies_within(15_000, 60_000, self.t2)
-            && lies_within(15_000, 60_000, self.t3)
-            && lies_within(15_000, 60_000, self.t4)
-            && lies_within(15_000, 60_000, self.t5)
-            && lies_within(1_000, 60_000, self.tr)
+        self.are_peer_timers_lawful()
+            && (1_000..=60_000).contains(&self.tr)
             && self.home >= 1
             && self.server >= 1
     }

@@ -1,16 +1,17 @@
 // What an exchange is fitted out with, before it enters service.
 ghost use Rattle.std.specs.Prelude.{◌≡◌};
-ghost use Rattle.exchange.specs.FitOut.{timer_number, duration};
+ghost use Rattle.std.specs.Option.{ok_or};
+ghost use Rattle.exchange.specs.FitOut.{timer_number, timer_of_number, duration};
 
 #[derive(Clone, Copy)]
 pub enum Timer {
-    T1,
-    T2,
-    T3,
-    T4,
-    T5,
+    T1 = 1,
+    T2 = 2,
+    T3 = 3,
+    T4 = 4,
+    T5 = 5,
     // The timer of the radio side.
-    Tr,
+    Tr = 6,
 }
 
 // Times are in milliseconds.
@@ -29,18 +30,33 @@ pub struct FitOut {
     pub can_compute: bool,
 }
 
-impl Timer {
-    // The number under which its expiry is reported.
-    pub fn number(self) -> u8
-        ensures { result ≡ timer_number self }
-    {
-        match self {
-            Timer::T1 => 1,
-            Timer::T2 => 2,
-            Timer::T3 => 3,
-            Timer::T4 => 4,
-            Timer::T5 => 5,
-            Timer::Tr => 6,
+// The number under which a timer's expiry is reported.
+impl From<Timer> for u8 {
+    ghost from_gives = { λ timer n. n ≡ timer_number timer };
+
+    fn from(timer: Timer) -> u8 {
+        timer as u8
+    }
+}
+
+// A number that no timer has.
+#[derive(Clone, Copy, PartialEq, Eq, Debug)]
+pub struct UnknownTimer(pub u8);
+
+impl TryFrom<u8> for Timer {
+    type Error = UnknownTimer;
+
+    ghost try_from_gives = { λ n answer. answer ≡ ok_or (timer_of_number n) (record { 0 = n }) };
+
+    fn try_from(number: u8) -> Result<Timer, UnknownTimer> {
+        match number {
+            1 => Ok(Timer::T1),
+            2 => Ok(Timer::T2),
+            3 => Ok(Timer::T3),
+            4 => Ok(Timer::T4),
+            5 => Ok(Timer::T5),
+            6 => Ok(Timer::Tr),
+            _ => Err(UnknownTimer(number)),
         }
     }
 }

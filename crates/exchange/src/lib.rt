@@ -8,12 +8,11 @@ mod fit_out;
 mod in_service;
 mod link;
 mod outcome;
-mod search;
 mod service;
 mod table;
 
 pub use dialogue::{Dialogue, OwnNumber, State};
-pub use fit_out::{FitOut, Timer};
+pub use fit_out::{FitOut, Timer, UnknownTimer};
 pub use in_service::Exchange;
 pub use link::{Link, add_link};
 pub use outcome::{Cause, Done, Report};

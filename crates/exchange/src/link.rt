@@ -15,7 +15,7 @@ impl Keyed for Link {
     ghost keyed = { λ l. l.peer };
 
     fn key(&self) -> u64 {
-        self.peer as u64
+        u64::from(self.peer)
     }
 }
 
@@ -35,5 +35,5 @@ pub fn add_link(links: &mut Directory<'_, Link>, peer: u8) -> Result<(), Refusal
 pub(crate) fn is_link(links: &Directory<'_, Link>, peer: u8) -> bool
     ensures { result ≡ is_linked (contents links.now) peer }
 {
-    links.contains(peer as u64)
+    links.contains(u64::from(peer))
 }

@@ -1,10 +1,9 @@
 // What an exchange in service keeps, and the checks that its calls share.
-ghost use Rattle.std.specs.Prelude.{◌≡◌, ◌^◌, ◌<◌, ◌≤◌, length, IfOk, OnOk};
-ghost use Rattle.exchange.specs.Service.{Sound, Timely, timely, ready, room, opened};
+ghost use Rattle.std.specs.Prelude.{◌≡◌, ◌<◌, ◌≤◌, length, IfOk, OnOk};
+ghost use Rattle.exchange.specs.Service.{Timely, timely, ready, room};
 
-use crate::dialogue::{Dialogue, OwnNumber, State};
+use crate::dialogue::Dialogue;
 use crate::fit_out::FitOut;
-use crate::table::{place_free, timer_due};
 use refusal::Refusal;
 
 #[derive(Clone, Copy)]
@@ -18,7 +17,7 @@ pub struct Service {
 }
 
 // The highest reading, 2^40.
-const LAST_READING: u64 = 1_099_511_627_776;
+const LAST_READING: u64 = 1 << 40;
 
 impl Service {
     // The checks of every call: the buffer's size, then the reading.
@@ -29,7 +28,7 @@ impl Service {
         if size < 64 {
             return Err(Refusal::ShortSheet);
         }
-        if reading < self.last || reading > LAST_READING {
+        if !(self.last..=LAST_READING).contains(&reading) {
             return Err(Refusal::ClockBack);
         }
         Ok(())
@@ -41,7 +40,7 @@ impl Service {
         ensures passed { OnOk result (Timely reading size) }
     {
         self.check_time(reading, size)?;
-        if timer_due(&self.dialogues, reading) {
+        if self.is_timer_due(reading) {
             return Err(Refusal::TimerDue);
         }
         Ok(())
@@ -52,28 +51,10 @@ impl Service {
         ensures value { result ≡ room self.now }
         ensures passed { IfOk result (λ place. (place < length self.now.dialogues) × (self.now.next ≤ 60000)) }
     {
-        let Some(place) = place_free(&self.dialogues) else {
-            return Err(Refusal::Full);
-        };
+        let place = self.free_place().ok_or(Refusal::Full)?;
         if self.next > 60_000 {
             return Err(Refusal::Spent);
         }
         Ok(place)
-    }
-
-    // Opens a dialogue under the next number.
-    pub(crate) fn open_dialogue(&mut self, reading: u64, place: usize, state: State)
-        requires place { place < 32 }
-        requires time { reading ≤ 2 ^ 40 }
-        requires number { self.old.next ≤ 60000 }
-        requires sound { Sound self.old }
-        ensures value { self.new ≡ opened self.old reading place state }
-        ensures sound { Sound self.new }
-    {
-        let name = OwnNumber(self.next);
-        let ends = reading + self.fit.duration(state.timer()) as u64;
-        self.dialogues[place] = Some(Dialogue { name, ends, state });
-        self.next += 1;
-        self.last = reading;
     }
 }

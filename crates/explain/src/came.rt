@@ -1,9 +1,10 @@
 // What came of a record, in words, from the record of the sheet.
 use crate::digits::Digits;
+use exchange::Timer;
 use refusal::Refusal;
 use sheet::{Answer, EXPIRY, FAILURE};
 use std::fmt;
-use wire::{Field, Kind, Operation, Reader};
+use wire::{Field, Reader};
 
 #[derive(Clone, Copy)]
 pub struct Came<'a>(pub Field<'a>);
@@ -60,9 +61,10 @@ impl fmt::Display for Sent<'_> {
 
 impl fmt::Display for Timed {
     fn fmt<W: fmt::Write>(&self, f: &mut fmt::Formatter<W>) -> fmt::Result {
-        match self.0 {
-            6 => write!(f, "TR"),
-            number => write!(f, "T{number}"),
+        let number = self.0;
+        match Timer::try_from(number) {
+            Ok(Timer::Tr) => write!(f, "TR"),
+            _ => write!(f, "T{number}"),
         }
     }
 }

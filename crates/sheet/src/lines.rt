@@ -53,7 +53,7 @@ fn report_record(name: OwnNumber, report: Report) -> [u8; 8]
         high,
         low,
         EXPIRY,
-        timer.number(),
+        timer.into(),
     ]
 }
 

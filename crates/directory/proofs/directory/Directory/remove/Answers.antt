@@ -1,4 +1,4 @@
-use Rattle.std.proofs.Common.{◌≡◌, ℕ, ◌-◌, ◌∷◌, ◌++◌, List, Some, length, take, drop, sym, ap, ◌∙◌, nat_eq, zero-add}
+use Rattle.std.proofs.Common.{◌≡◌, ℕ, ◌-◌, ◌∷◌, ◌++◌, List, Some, length, take, drop, sym, ap, ◌∙◌, nat_eq}
 use Rattle.std.specs.List.{remove}
 use Rattle.directory.specs.Contents.{contents}
 use Rattle.directory.specs.Found.{first_at}
@@ -7,7 +7,7 @@ use Rattle.directory.proofs.Removing.{remove_list_none, remove_list_some, take_v
 use Rattle.directory.proofs.directory.Directory.remove.Goals as goal
 
 pub returns-in_err-place-clause-list : goal.returns-in_err-place-clause-list
-returns-in_err-place-clause-list g c = sym (remove_list_none nat_eq g.R.Keyed.keyed (contents c.args.self.now) c.args.key 0 (sym c.find.ensures.value ∙ c.in_err-place.was))
+returns-in_err-place-clause-list g c = sym (remove_list_none nat_eq g.R.Keyed.keyed (contents c.args.self.now) c.args.key (sym c.find.ensures.value ∙ c.in_err-place.was))
 
 pub returns-clause-list : goal.returns-clause-list
 returns-clause-list g c =
@@ -24,5 +24,5 @@ returns-clause-list g c =
     let left : take n c.take_out.new.places ≡ remove_list nat_eq g.R.Keyed.keyed used c.args.key =
     ap (take n) (places ∙ ap (λ (u : List R). remove u i ++ c.blank.result ∷ rest) same)
     ∙ take_vacated used rest i c.blank.result n c.in_ok-place.ensures.within (ap (λ (u : List R). length u - 1) c.used-count.ensures)
-    ∙ sym (remove_list_some nat_eq g.R.Keyed.keyed used c.args.key 0 i (at ∙ ap Some (sym (zero-add i)))) in
+    ∙ sym (remove_list_some nat_eq g.R.Keyed.keyed used c.args.key i at) in
     cc
