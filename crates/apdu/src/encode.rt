@@ -1,11 +1,11 @@
 // Writing an APDU to the front of a lent buffer.
 ghost use Rattle.std.specs.Prelude.{◌≡◌, ◌≤◌, ◌++◌, true, length};
-ghost use Rattle.apdu.specs.Encode.{head, operation_field, kind_of_body, body_bytes, encode, body_right, is_right, write_answer, write_buffer};
+ghost use Rattle.apdu.specs.Encode.{head, operation_field, kind_of_body, body_bytes, encode, invoke_right, body_right, is_right, write_answer, write_buffer};
 ghost use Rattle.apdu.specs.Operations.{operation_with, bytes_with, right_with};
 ghost use Rattle.apdu.specs.Fronts.{HasRoom, Wrote, front};
 ghost use Rattle.apdu.specs.Laws.{WrittenReadsBack};
 
-use crate::apdus::{Apdu, Body, ByOperation};
+use crate::apdus::{Apdu, Body, ByOperation, Invoke};
 use crate::row::Row;
 use crate::tags;
 use crate::writer::Writer;
@@ -27,19 +27,6 @@ impl<A, T, N> ByOperation<A, T, N> {
 }
 
 impl<A: Row, T: Row, N: Row> ByOperation<A, T, N> {
-    // Whether what goes with the operation can be written.
-    fn is_right(&self) -> bool
-        ensures { result ≡ right_with (record { auth_wtm = A.shape; wtat_param = T.shape; wtan_param = N.shape }) self.now }
-    {
-        match self {
-            ByOperation::AuthWtmUser(auth_wtm) => auth_wtm.is_right(),
-            ByOperation::GetWtatParam(wtat_param) => wtat_param.is_right(),
-            ByOperation::WtatParamEnq(wtat_param) => wtat_param.is_right(),
-            ByOperation::GetWtanParam(wtan_param) => wtan_param.is_right(),
-            ByOperation::WtanParamEnq(wtan_param) => wtan_param.is_right(),
-        }
-    }
-
     // The operation and what goes with it.
     fn put(&self, writer: &mut Writer<'_>)
         requires right { right_with (record { auth_wtm = A.shape; wtat_param = T.shape; wtan_param = N.shape }) self.now ≡ true }
@@ -58,6 +45,22 @@ impl<A: Row, T: Row, N: Row> ByOperation<A, T, N> {
     }
 }
 
+impl Invoke {
+    // Whether its user number is lawful.
+    fn is_right(&self) -> bool
+        ensures { result ≡ invoke_right self.now }
+    {
+        let user = match self {
+            Invoke::AuthWtmUser(arg) => arg.user,
+            Invoke::GetWtatParam(arg) => arg.user,
+            Invoke::WtatParamEnq(arg) => arg.user,
+            Invoke::GetWtanParam(arg) => arg.user,
+            Invoke::WtanParamEnq(arg) => arg.user,
+        };
+        user.is_lawful()
+    }
+}
+
 impl Body {
     fn kind(&self) -> Kind
         ensures { result ≡ kind_of_body self.now }
@@ -70,15 +73,13 @@ impl Body {
         }
     }
 
-    // Whether it can be written: a result, an error and a reject always can.
+    // Whether its user number, if it has one, is lawful.
     fn is_right(&self) -> bool
         ensures { result ≡ body_right self.now }
     {
         match self {
             Body::Invoke(invoke) => invoke.is_right(),
-            Body::ReturnResult(result) => result.is_right(),
-            Body::ReturnError(error) => error.is_right(),
-            Body::Reject(problem) => problem.is_right(),
+            _ => true,
         }
     }
 

@@ -21,10 +21,6 @@ pub(crate) trait Row: Sized {
     fn read(fields: &mut Reader<'_>) -> Option<Self>
         ensures { result ≡ shaped shape (unread fields.old) };
 
-    // Whether it can be written.
-    fn is_right(&self) -> bool
-        ensures { result ≡ shape.right self.now };
-
     // Writes the row that tells it, 36 bytes at most.
     fn put(&self, writer: &mut Writer<'_>)
         requires right { shape.right self.now ≡ true }
@@ -52,10 +48,6 @@ impl Row for AuthWtmArg {
             Some(value) => Some(unit_in(value)?),
         };
         all_read(fields, AuthWtmArg { user, unit })
-    }
-
-    fn is_right(&self) -> bool {
-        self.user.is_lawful()
     }
 
     fn put(&self, writer: &mut Writer<'_>) {
@@ -86,10 +78,7 @@ impl Row for WtatParamArg {
         )
     }
 
-    fn is_right(&self) -> bool {
-        self.user.is_lawful()
-    }
-
+    #[inline(always)]
     fn put(&self, writer: &mut Writer<'_>) {
         writer.user(self.user);
         writer.flag(tags::CAN_COMPUTE, self.computes);
@@ -118,10 +107,7 @@ impl Row for WtanParamArg {
         )
     }
 
-    fn is_right(&self) -> bool {
-        self.user.is_lawful()
-    }
-
+    #[inline(always)]
     fn put(&self, writer: &mut Writer<'_>) {
         writer.user(self.user);
         writer.flag(tags::CAN_COMPUTE, self.computes);
@@ -136,10 +122,6 @@ impl Row for Verdict {
     fn read(fields: &mut Reader<'_>) -> Option<Verdict> {
         let verdict = Verdict::try_from(byte_in(fields.take_value(tags::VERDICT)?)?).ok()?;
         all_read(fields, verdict)
-    }
-
-    fn is_right(&self) -> bool {
-        true
     }
 
     fn put(&self, writer: &mut Writer<'_>) {
@@ -169,10 +151,7 @@ impl Row for WtatParamRes {
         all_read(fields, WtatParamRes { algorithm, info })
     }
 
-    fn is_right(&self) -> bool {
-        true
-    }
-
+    #[inline(always)]
     fn put(&self, writer: &mut Writer<'_>) {
         writer.byte(tags::ALGORITHM, self.algorithm);
         match &self.info {
@@ -196,10 +175,7 @@ impl Row for WtanParamRes {
         all_read(fields, res)
     }
 
-    fn is_right(&self) -> bool {
-        true
-    }
-
+    #[inline(always)]
     fn put(&self, writer: &mut Writer<'_>) {
         match self {
             WtanParamRes::Session(session) => writer.session(session),
@@ -216,10 +192,6 @@ impl Row for ErrorCode {
         all_read(fields, error)
     }
 
-    fn is_right(&self) -> bool {
-        true
-    }
-
     fn put(&self, writer: &mut Writer<'_>) {
         writer.byte(tags::ERROR, (*self).into());
     }
@@ -232,10 +204,6 @@ impl Row for u8 {
     fn read(fields: &mut Reader<'_>) -> Option<u8> {
         let problem = byte_in(fields.take_value(tags::PROBLEM)?)?;
         all_read(fields, problem)
-    }
-
-    fn is_right(&self) -> bool {
-        true
     }
 
     fn put(&self, writer: &mut Writer<'_>) {

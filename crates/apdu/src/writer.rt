@@ -61,6 +61,7 @@ impl<'a> Writer<'a> {
     }
 
     // A field of two parts.
+    #[inline(always)]
     fn pair(&mut self, tag: u8, first: &[u8], second: &[u8])
         requires fits { HasRoom self.old (3 + (length first.now + length second.now)) }
         requires short { length first.now + length second.now < 65536 }
@@ -72,6 +73,7 @@ impl<'a> Writer<'a> {
         self.bytes(second);
     }
 
+    #[inline(always)]
     pub(crate) fn user(&mut self, user: UserNumber)
         requires user { is_user user ≡ true }
         requires fits { HasRoom self.old 18 }
@@ -97,6 +99,7 @@ impl<'a> Writer<'a> {
         }
     }
 
+    #[inline(always)]
     pub(crate) fn unit(&mut self, unit: &AuthUnit)
         requires { HasRoom self.old 15 }
         ensures same_reference { self.new.out.ghost_name ≡ self.old.out.ghost_name }
@@ -105,6 +108,7 @@ impl<'a> Writer<'a> {
         self.pair(tags::UNIT, &unit.challenge, &unit.response);
     }
 
+    #[inline(always)]
     pub(crate) fn session(&mut self, session: &AuthSession)
         requires { HasRoom self.old 27 }
         ensures same_reference { self.new.out.ghost_name ≡ self.old.out.ghost_name }
