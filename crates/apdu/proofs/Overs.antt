@@ -1,64 +1,38 @@
--- One write after another. Assumes nothing.
-use Rattle.std.proofs.Common.{◌≡◌, ℕ, ◌+◌, ◌-◌, ◌≤◌, List, [], ◌++◌, length, take, drop, sym, ap, ◌∙◌, add-zero, zero-add, arith}
+-- What one write leaves, and two. Assumes nothing.
+use Rattle.std.proofs.Common.{◌≡◌, ℕ, ◌+◌, ◌-◌, ◌≤◌, List, [], ◌++◌, length, take, drop, sym, ap, ◌∙◌, arith}
 use borrow.Rule.Slice.PartMut.{put_mid}
-use Rattle.std.proofs.lemmas.List.{append_assoc, append-nil, take-append-drop, drop-drop, take_at, drop_at, length-append, length-take-le, length-drop}
-use Rattle.apdu.specs.Fronts.{over, front, Wrote}
+use Rattle.std.proofs.lemmas.List.{append_assoc, take-append-drop, drop-drop, take_at, drop_at, length-append, length-take-le, length-drop}
+use Rattle.apdu.specs.declared.writer.Writer.{Writer}
+use Rattle.apdu.specs.Fronts.{front, written, unwritten, Wrote}
 
-pub put_is_over : (a : ℕ) (xs ys bs : List ℕ) → ys ≡ bs → put_mid a (a + length bs - a) xs ys ≡ over a bs xs
-put_is_over a xs ys bs e = let h : a + length bs - a ≡ length bs = omega arith in simp (e, h, drop-drop)
-
--- a part of the memory was written by a call, and is bs now
-pub wrote_part : (xs ys bs : List ℕ) (at n : ℕ) → ys ≡ bs → n ≡ length bs → at + n ≤ length xs → Wrote xs at bs (put_mid at (at + n - at) xs ys) (at + n)
-wrote_part xs ys bs at n e k h = record { left = (λ i. put_mid at (at + k i - at) xs ys) ∙ put_is_over at xs ys bs e; end = ap (λ m. at + m) k; fits = omega arith }
-
-over_length : (at : ℕ) (a xs : List ℕ) → at + length a ≤ length xs → length (over at a xs) ≡ length xs
-over_length at a xs h = let k : at ≤ length xs = omega arith in simp (length-append, length-drop) (omega (arith, length-take-le at xs k))
-
--- a write leaves the memory as long as it was
-pub wrote_length : {xs ys bs : List ℕ} {at n : ℕ} → Wrote xs at bs ys n → length ys ≡ length xs
-wrote_length {xs} {ys} {bs} {at} w = ap length w.left ∙ over_length at bs xs w.fits
-
-module _ (at : ℕ) (a b xs : List ℕ) (within : at ≤ length xs) where
-  upto : List ℕ
-  upto = take at xs ++ a
-
-  long : length upto ≡ at + length a
-  unfolding upto
-  long = simp length-append (omega (arith, length-take-le at xs within))
-
-  over_over : over (at + length a) b (over at a xs) ≡ over at (a ++ b) xs
-  unfolding upto
-  over_over =
-      let q : List ℕ = drop (at + length a) xs in
-      let e : over at a xs ≡ upto ++ q = sym (append_assoc (take at xs) a q) in
-      let t : take (at + length a) (upto ++ q) ≡ upto = take_at upto q _ long in
-      let n : at + length a + length b ≡ at + length (a ++ b) = simp length-append (omega arith) in
-      let back : List ℕ = drop (at + length (a ++ b)) xs in
-      let d : drop (at + length a + length b) (upto ++ q) ≡ back = sym (drop-drop (length b) (at + length a) (upto ++ q)) ∙ ap (drop (length b)) (drop_at upto q _ long) ∙ drop-drop (length b) (at + length a) xs ∙ ap (λ m. drop m xs) n in
-      ap (over (at + length a) b) e ∙ (λ i. t i ++ (b ++ d i)) ∙ append_assoc (take at xs) a (b ++ back) ∙ ap (λ l. take at xs ++ l) (sym (append_assoc a b back))
-
--- two writes, the second where the first ended, are one
-pub wrote_then : {xs ys zs a b : List ℕ} {at n m : ℕ} → Wrote xs at a ys n → Wrote ys n b zs m → Wrote xs at (a ++ b) zs m
-wrote_then {xs} {ys} {zs} {a} {b} {at} {n} {m} v w =
-    let k : at ≤ length xs = omega (arith, v.fits) in
-    let same : length ys ≡ length xs = wrote_length v in
+-- the part of the buffer from the writer's place on was written by a call, and is bs now
+pub wrote_part : {w v : Writer} (bs ys : List ℕ) → ys ≡ bs → v.at ≡ w.at + length bs → w.at + length bs ≤ length w.out.now → v.out.now ≡ put_mid w.at (v.at - w.at) w.out.now ys → Wrote w bs v
+unfolding written unwritten
+wrote_part {w} {v} bs ys e k fits left =
+    let xs : List ℕ = w.out.now in
+    let at : length (take w.at xs) ≡ w.at = length-take-le w.at xs (omega (arith, fits)) in
+    let long : length (take w.at xs ++ bs) ≡ v.at = length-append (take w.at xs) bs ∙ (λ i. at i + length bs) ∙ sym k in
+    let n : v.at - w.at ≡ length bs = omega (arith, k) in
+    let is : v.out.now ≡ (take w.at xs ++ bs) ++ drop (length bs) (drop w.at xs) = left ∙ (λ i. take w.at xs ++ (e i ++ drop (n i) (drop w.at xs))) ∙ sym (append_assoc (take w.at xs) bs (drop (length bs) (drop w.at xs))) in
     record {
-      left = w.left ∙ (λ i. over (v.end i) b (v.left i)) ∙ over_over at a b xs k;
-      end = simp length-append (omega (arith, v.end, w.end));
-      fits = simp length-append (omega (arith, v.end, w.fits));
+      before = ap (take v.at) is ∙ take_at (take w.at xs ++ bs) _ _ long;
+      behind = ap (drop v.at) is ∙ drop_at (take w.at xs ++ bs) _ _ long;
+      end = k;
+      size = ap length is ∙ simp (length-append, length-drop) (omega (arith, at, fits));
     }
 
--- the same, where the bytes are told in another way
-pub wrote_as : {xs ys zs a b : List ℕ} {at n m : ℕ} (bs : List ℕ) → Wrote xs at a ys n → Wrote ys n b zs m → bs ≡ a ++ b → Wrote xs at bs zs m
-wrote_as bs v w e = rw e (wrote_then v w)
+-- two writes, the second where the first ended, are one
+pub wrote_then : {w v u : Writer} {a b : List ℕ} → Wrote w a v → Wrote v b u → Wrote w (a ++ b) u
+wrote_then {w} {v} {u} {a} {b} f g =
+    record {
+      before = g.before ∙ (λ i. f.before i ++ b) ∙ append_assoc (written w) a b;
+      behind = g.behind ∙ (λ i. drop (length b) (f.behind i)) ∙ drop-drop (length b) (length a) (unwritten w) ∙ ap (λ n. drop n (unwritten w)) (sym (length-append a b));
+      end = simp length-append (omega (arith, f.end, g.end));
+      size = g.size ∙ f.size;
+    }
 
--- nothing was written
-pub wrote_none : (xs bs : List ℕ) (at : ℕ) → bs ≡ [] → at ≤ length xs → Wrote xs at bs xs at
-wrote_none xs bs at e h = rw e (record { left = sym (take-append-drop at xs) ∙ (λ i. take at xs ++ drop (sym (add-zero at) i) xs); end = sym (add-zero at); fits = omega arith })
-
--- the row ends here
-pub wrote_last : {xs ys a : List ℕ} {at n : ℕ} → Wrote xs at a ys n → Wrote xs at (a ++ []) ys n
-wrote_last {xs} {ys} {a} {at} {n} v = rw (append-nil a) v
-
-pub wrote_front : {xs bs ys : List ℕ} {n : ℕ} → Wrote xs 0 bs ys n → (ys ≡ front bs xs) × (n ≡ length bs)
-wrote_front {xs} {bs} w = (w.left ∙ ap (λ k. bs ++ drop k xs) (zero-add (length bs)), w.end ∙ zero-add (length bs))
+-- a writer that stood at the front
+pub wrote_front : {w v : Writer} {bs : List ℕ} → w.at ≡ 0 → Wrote w bs v → v.out.now ≡ front bs w.out.now
+unfolding written unwritten
+wrote_front {w} {v} {bs} e h =
+    sym (take-append-drop v.at v.out.now) ∙ (λ i. h.before i ++ h.behind i) ∙ (λ i. (take (e i) w.out.now ++ bs) ++ drop (length bs) (drop (e i) w.out.now))

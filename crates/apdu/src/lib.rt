@@ -3,6 +3,7 @@
 
 mod apdus;
 mod decode;
+mod encode;
 mod row;
 mod tags;
 mod values;
@@ -15,4 +16,4 @@ pub use apdus::{
 };
 pub use decode::read;
 pub use users::UserNumber;
-pub use writer::write;
+pub use encode::write;

@@ -1,13 +1,16 @@
 // What stands behind the invoke id, or behind the operation: a row of fields that tells one value.
-ghost use Rattle.std.specs.Prelude.{◌≡◌, Some, None, if◌then◌else◌};
+ghost use Rattle.std.specs.Prelude.{◌≡◌, true, [], ◌∷◌, Some, None, if◌then◌else◌};
 ghost use Rattle.std.specs.Option.{option_map};
 ghost use Rattle.wire.specs.Fields.{unread, is_nothing};
-ghost use Rattle.apdu.specs.Grammar.{auth_wtm_arg, wtat_param_arg, wtan_param_arg, auth_wtm_res, wtat_info, wtat_param_res, wtan_param_res, return_error, reject};
-ghost use Rattle.apdu.specs.Rows.{Shape, shaped};
+ghost use Rattle.apdu.specs.Grammar.{auth_wtm_arg, wtat_param_arg, wtan_param_arg, auth_wtm_res, wtat_info, wtat_told, wtat_param_res, wtan_param_res, return_error, reject};
+ghost use Rattle.apdu.specs.Fronts.{HasRoom, Wrote};
+ghost use Rattle.apdu.specs.Rows.{Shape, shaped, shape_bytes, wires};
+ghost use Rattle.apdu.specs.Tags as tag;
 
 use crate::apdus::{AuthWtmArg, WtanParamArg, WtanParamRes, WtatInfo, WtatParamArg, WtatParamRes};
 use crate::tags;
 use crate::values::{byte_in, bytes_in, flag_in, session_in, unit_in};
+use crate::writer::Writer;
 use users::UserNumber;
 use wire::{ErrorCode, Reader, Verdict};
 
@@ -17,6 +20,13 @@ pub(crate) trait Row: Sized {
     // What the bytes say to their end, if they are such a row.
     fn read(fields: &mut Reader<'_>) -> Option<Self>
         ensures { result ≡ shaped shape (unread fields.old) };
+
+    // Writes the row that tells it, 36 bytes at most.
+    fn put(&self, writer: &mut Writer<'_>)
+        requires right { shape.right self.now ≡ true }
+        requires fits { HasRoom writer.old 36 }
+        ensures same_reference { writer.new.out.ghost_name ≡ writer.old.out.ghost_name }
+        ensures wrote { Wrote writer.old (shape_bytes shape self.now) writer.new };
 }
 
 // A value that has been read, if nothing stands behind it.
@@ -39,6 +49,13 @@ impl Row for AuthWtmArg {
         };
         all_read(fields, AuthWtmArg { user, unit })
     }
+
+    fn put(&self, writer: &mut Writer<'_>) {
+        writer.user(self.user);
+        if let Some(unit) = &self.unit {
+            writer.unit(unit);
+        }
+    }
 }
 
 impl Row for WtatParamArg {
@@ -60,6 +77,15 @@ impl Row for WtatParamArg {
             },
         )
     }
+
+    #[inline(always)]
+    fn put(&self, writer: &mut Writer<'_>) {
+        writer.user(self.user);
+        writer.flag(tags::CAN_COMPUTE, self.computes);
+        if let Some(challenge) = &self.challenge {
+            writer.field(tags::CHALLENGE, challenge);
+        }
+    }
 }
 
 impl Row for WtanParamArg {
@@ -80,6 +106,14 @@ impl Row for WtanParamArg {
             },
         )
     }
+
+    #[inline(always)]
+    fn put(&self, writer: &mut Writer<'_>) {
+        writer.user(self.user);
+        writer.flag(tags::CAN_COMPUTE, self.computes);
+        writer.field(tags::CHALLENGE, &self.challenge);
+        writer.byte(tags::ALGORITHM, self.algorithm);
+    }
 }
 
 impl Row for Verdict {
@@ -88,6 +122,10 @@ impl Row for Verdict {
     fn read(fields: &mut Reader<'_>) -> Option<Verdict> {
         let verdict = Verdict::try_from(byte_in(fields.take_value(tags::VERDICT)?)?).ok()?;
         all_read(fields, verdict)
+    }
+
+    fn put(&self, writer: &mut Writer<'_>) {
+        writer.byte(tags::VERDICT, (*self).into());
     }
 }
 
@@ -112,6 +150,15 @@ impl Row for WtatParamRes {
         let info = wtat_info_in(unit, session)?;
         all_read(fields, WtatParamRes { algorithm, info })
     }
+
+    #[inline(always)]
+    fn put(&self, writer: &mut Writer<'_>) {
+        writer.byte(tags::ALGORITHM, self.algorithm);
+        match &self.info {
+            WtatInfo::Unit(unit) => writer.unit(unit),
+            WtatInfo::Session(session) => writer.session(session),
+        }
+    }
 }
 
 impl Row for WtanParamRes {
@@ -127,6 +174,14 @@ impl Row for WtanParamRes {
         };
         all_read(fields, res)
     }
+
+    #[inline(always)]
+    fn put(&self, writer: &mut Writer<'_>) {
+        match self {
+            WtanParamRes::Session(session) => writer.session(session),
+            WtanParamRes::Response(response) => writer.field(tags::RESPONSE, response),
+        }
+    }
 }
 
 impl Row for ErrorCode {
@@ -135,6 +190,10 @@ impl Row for ErrorCode {
     fn read(fields: &mut Reader<'_>) -> Option<ErrorCode> {
         let error = ErrorCode::try_from(byte_in(fields.take_value(tags::ERROR)?)?).ok()?;
         all_read(fields, error)
+    }
+
+    fn put(&self, writer: &mut Writer<'_>) {
+        writer.byte(tags::ERROR, (*self).into());
     }
 }
 
@@ -145,5 +204,9 @@ impl Row for u8 {
     fn read(fields: &mut Reader<'_>) -> Option<u8> {
         let problem = byte_in(fields.take_value(tags::PROBLEM)?)?;
         all_read(fields, problem)
+    }
+
+    fn put(&self, writer: &mut Writer<'_>) {
+        writer.byte(tags::PROBLEM, *self);
     }
 }

@@ -1,0 +1,5 @@
+use Rattle.apdu.proofs.Overs.{wrote_then}
+use Rattle.apdu.proofs.writer.Writer.field.Goals as goal
+
+pub returns-clause-wrote : goal.returns-clause-wrote
+returns-clause-wrote c = wrote_then c.head.ensures.wrote c.bytes.ensures.wrote
