@@ -11,9 +11,8 @@ ghost use Rattle.apdu.specs.Values.{id_in, must};
 
 use crate::apdus::{Apdu, Body, ByOperation, Invoke, NoApdu, ReturnResult};
 use crate::row::Row;
-use crate::tags;
 use crate::values::{byte_in, id_in};
-use wire::{Kind, Operation, Problem, Reader};
+use wire::{Kind, Operation, Problem, Reader, tags};
 
 // The operation's number.
 fn read_operation(fields: &mut Reader<'_>) -> Option<u8>

@@ -7,10 +7,9 @@ ghost use Rattle.apdu.specs.Laws.{WrittenReadsBack};
 
 use crate::apdus::{Apdu, Body, ByOperation, Invoke};
 use crate::row::Row;
-use crate::tags;
 use crate::writer::Writer;
 use refusal::Refusal;
-use wire::{Kind, Operation};
+use wire::{Kind, Operation, tags};
 
 impl<A, T, N> ByOperation<A, T, N> {
     fn operation(&self) -> Operation

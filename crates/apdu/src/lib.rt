@@ -5,7 +5,6 @@ mod apdus;
 mod decode;
 mod encode;
 mod row;
-mod tags;
 mod values;
 mod writer;
 
@@ -15,5 +14,5 @@ pub use apdus::{
     WtatParamArg, WtatParamRes,
 };
 pub use decode::read;
-pub use users::UserNumber;
 pub use encode::write;
+pub use users::UserNumber;

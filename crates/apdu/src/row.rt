@@ -8,11 +8,10 @@ ghost use Rattle.apdu.specs.Rows.{Shape, shaped, shape_bytes, wires};
 ghost use Rattle.apdu.specs.Tags as tag;
 
 use crate::apdus::{AuthWtmArg, WtanParamArg, WtanParamRes, WtatInfo, WtatParamArg, WtatParamRes};
-use crate::tags;
 use crate::values::{byte_in, bytes_in, flag_in, session_in, unit_in};
 use crate::writer::Writer;
 use users::UserNumber;
-use wire::{ErrorCode, Reader, Verdict};
+use wire::{ErrorCode, Reader, Verdict, tags};
 
 pub(crate) trait Row: Sized {
     ghost shape: { Shape Self };
@@ -61,6 +60,7 @@ impl Row for AuthWtmArg {
 impl Row for WtatParamArg {
     ghost shape = { wtat_param_arg };
 
+    #[inline(always)]
     fn read(fields: &mut Reader<'_>) -> Option<WtatParamArg> {
         let user = UserNumber::from_digits(fields.take_value(tags::USER)?)?;
         let computes = flag_in(fields.take_value(tags::CAN_COMPUTE))?;
@@ -91,6 +91,7 @@ impl Row for WtatParamArg {
 impl Row for WtanParamArg {
     ghost shape = { wtan_param_arg };
 
+    #[inline(always)]
     fn read(fields: &mut Reader<'_>) -> Option<WtanParamArg> {
         let user = UserNumber::from_digits(fields.take_value(tags::USER)?)?;
         let computes = flag_in(fields.take_value(tags::CAN_COMPUTE))?;
@@ -143,6 +144,7 @@ fn wtat_info_in(unit: Option<&[u8]>, session: Option<&[u8]>) -> Option<WtatInfo>
 impl Row for WtatParamRes {
     ghost shape = { wtat_param_res };
 
+    #[inline(always)]
     fn read(fields: &mut Reader<'_>) -> Option<WtatParamRes> {
         let algorithm = byte_in(fields.take_value(tags::ALGORITHM)?)?;
         let unit = fields.take_value(tags::UNIT);

@@ -9,8 +9,8 @@ ghost use Rattle.apdu.specs.Values.{flagged};
 ghost use Rattle.users.specs.Users.{user_digits, is_user};
 
 use crate::apdus::{AuthSession, AuthUnit};
-use crate::tags;
 use users::UserNumber;
+use wire::tags;
 
 // A lent buffer, and the place in it where the next field goes.
 #[derive(Drop)]

@@ -4,7 +4,7 @@ use exchange::Timer;
 use refusal::Refusal;
 use sheet::{Answer, EXPIRY, FAILURE};
 use std::fmt;
-use wire::{Field, Reader};
+use wire::{Field, Kind, Operation, Reader, tags};
 
 #[derive(Clone, Copy)]
 pub struct Came<'a>(pub Field<'a>);
@@ -32,13 +32,18 @@ struct Refused(u8);
 impl fmt::Display for Named<'_> {
     fn fmt<W: fmt::Write>(&self, f: &mut fmt::Formatter<W>) -> fmt::Result {
         match (self.0.tag, self.0.value) {
-            (1, [1]) => write!(f, "kind invoke"),
-            (2, [high, low]) => {
+            (tags::KIND, [number]) if Kind::try_from(*number) == Ok(Kind::Invoke) => {
+                write!(f, "kind invoke")
+            }
+            (tags::ID, [high, low]) => {
                 let id = u16::from_be_bytes([*high, *low]);
                 write!(f, "invoke id {id}")
             }
-            (3, [1]) => write!(f, "operation authWtmUser"),
-            (4, text) => {
+            (tags::OPERATION, [number])
+                if Operation::try_from(*number) == Ok(Operation::AuthWtmUser) => {
+                write!(f, "operation authWtmUser")
+            }
+            (tags::USER, text) => {
                 let user = Digits { text };
                 write!(f, "user number {user}")
             }

@@ -3,6 +3,7 @@
 
 mod codes;
 mod fields;
+pub mod tags;
 
 pub use codes::{ErrorCode, Kind, Operation, Problem, UnknownNumber, Verdict};
 pub use fields::{Field, Reader};
