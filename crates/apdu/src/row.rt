@@ -42,6 +42,7 @@ impl Row for AuthWtmArg {
 
     fn read(fields: &mut Reader<'_>) -> Option<AuthWtmArg> {
         let user = UserNumber::from_digits(fields.take_value(tags::USER)?)?;
+        // An Option in an Option has no `transpose`, so that this `match` and the next one stay.
         let unit = match fields.take_value(tags::UNIT) {
             None => None,
             Some(value) => Some(unit_in(value)?),

@@ -63,7 +63,7 @@ impl Dialogue {
         (self.ends, self.name) < (other.ends, other.name)
     }
 
-    // State and event together decide the step.
+    // State and event together decide the step, in one `match`: a rule of the project.
     pub(crate) fn step(&self, event: Event) -> Step
         ensures { result ≡ stepped self.now event }
     {

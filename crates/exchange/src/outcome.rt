@@ -17,7 +17,7 @@ pub enum Report {
 pub enum Done {
     // Nothing is sent or reported.
     Quiet,
-    // An APDU of this size stands at the front of the buffer.
+    // An APDU of this size stands at the front of the buffer: a rule of the project, which lends the memory for answers.
     Sent { peer: u8, size: usize },
     Reported { name: OwnNumber, report: Report },
 }

@@ -13,6 +13,7 @@ pub struct Service {
     pub last: u64,
     // The next number that an opening dialogue takes.
     pub next: u16,
+    // The places for dialogues: a fixed table, by a rule of the project.
     pub dialogues: [Option<Dialogue>; 32],
 }
 

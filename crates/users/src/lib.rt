@@ -5,7 +5,8 @@ ghost use Rattle.std.specs.Prelude.{◌≡◌, ◌+◌, ◌%◌, ◌^◌, ◌<�
 ghost use Rattle.users.specs.Users.{number, digits, user_number, user_digits, is_user};
 ghost use Rattle.users.specs.Laws.{NoTwoWithOneKey, ZerosDiffer};
 
-// Count of digits × 10^15 + value.
+// Count of digits × 10^15 + value. The key may be any number: a program in C hands one over, and writing refuses it.
+// So `is_lawful` is a test, and no invariant of the type, which would ask more of callers.
 #[derive(Clone, Copy)]
 pub struct UserNumber {
     pub key: u64,
@@ -64,7 +65,8 @@ fn put_digits(places: &mut [u8], n: u64)
 }
 
 impl UserNumber {
-    // The user number that these digits write.
+    // The user number that these digits write. A name, and no `TryFrom<&[u8]>`: it says what the bytes are, and the error
+    // of a conversion could tell no more than None.
     pub fn from_digits(text: &[u8]) -> Option<UserNumber>
         ensures value { result ≡ user_number text.now }
         ensures lawful { IfSome result (λ u. is_user u ≡ true) }

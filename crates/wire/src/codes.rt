@@ -1,4 +1,5 @@
-// The code lists: what each number in a field of one byte stands for.
+// The code lists: what each number in a field of one byte stands for. Each has conversions of its own: `as` works
+// on no type parameter, and a search among all values of a list would have to be given the list once more.
 ghost use Rattle.std.specs.Prelude.{◌≡◌};
 ghost use Rattle.std.specs.Option.{ok_or};
 ghost use Rattle.wire.specs.Codes.{kind_number, kind_of, operation_number, operation_of, verdict_number, verdict_of, error_number, error_of, problem_number};
