@@ -15,5 +15,5 @@ pub use apdus::{
     WtatParamArg, WtatParamRes,
 };
 pub use decode::read;
-pub use users::UserNumber;
 pub use encode::write;
+pub use users::UserNumber;
