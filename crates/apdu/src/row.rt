@@ -1,11 +1,10 @@
 // What stands behind the invoke id, or behind the operation: a row of fields that tells one value.
-ghost use Rattle.std.specs.Prelude.{◌≡◌, true, [], ◌∷◌, Some, None, if◌then◌else◌};
+ghost use Rattle.std.specs.Prelude.{◌≡◌, true, Some, None, if◌then◌else◌};
 ghost use Rattle.std.specs.Option.{option_map};
 ghost use Rattle.wire.specs.Fields.{unread, is_nothing};
-ghost use Rattle.apdu.specs.Grammar.{auth_wtm_arg, wtat_param_arg, wtan_param_arg, auth_wtm_res, wtat_info, wtat_told, wtat_param_res, wtan_param_res, return_error, reject};
+ghost use Rattle.apdu.specs.Grammar.{auth_wtm_arg, wtat_param_arg, wtan_param_arg, auth_wtm_res, wtat_info, wtat_param_res, wtan_param_res, return_error, reject};
 ghost use Rattle.apdu.specs.Fronts.{HasRoom, Wrote};
-ghost use Rattle.apdu.specs.Rows.{Shape, shaped, shape_bytes, wires};
-ghost use Rattle.apdu.specs.Tags as tag;
+ghost use Rattle.apdu.specs.Rows.{Shape, shaped, shape_bytes};
 
 use crate::apdus::{AuthWtmArg, WtanParamArg, WtanParamRes, WtatInfo, WtatParamArg, WtatParamRes};
 use crate::values::{byte_in, bytes_in, flag_in, session_in, unit_in};

@@ -1,5 +1,5 @@
 use Rattle.std.proofs.Common.{rules}
-use Rattle.apdu.proofs.Overs.{wrote_then}
+use Rattle.apdu.proofs.Writes.{wrote_then}
 use Rattle.apdu.proofs.row.WtatParamArgRow.put.Goals as goal
 
 pub returns-in-Some-clause-wrote : goal.returns-in-Some-clause-wrote

@@ -1,5 +1,5 @@
 use Rattle.std.proofs.Common.{refl}
-use Rattle.apdu.proofs.Overs.{wrote_part}
+use Rattle.apdu.proofs.Writes.{wrote_part}
 use Rattle.apdu.proofs.writer.Writer.bytes.Goals as goal
 
 pub returns-clause-wrote : goal.returns-clause-wrote

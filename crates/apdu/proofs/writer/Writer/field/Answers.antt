@@ -1,4 +1,4 @@
-use Rattle.apdu.proofs.Overs.{wrote_then}
+use Rattle.apdu.proofs.Writes.{wrote_then}
 use Rattle.apdu.proofs.writer.Writer.field.Goals as goal
 
 pub returns-clause-wrote : goal.returns-clause-wrote

@@ -1,5 +1,5 @@
-use Rattle.std.proofs.Common.{◌≡◌, ◌+◌, ◌++◌, length, length-append}
-use Rattle.apdu.proofs.Overs.{wrote_then}
+use Rattle.std.proofs.Common.{length-append}
+use Rattle.apdu.proofs.Writes.{wrote_then}
 use Rattle.apdu.proofs.writer.Writer.pair.Goals as goal
 
 pub returns-clause-wrote : goal.returns-clause-wrote

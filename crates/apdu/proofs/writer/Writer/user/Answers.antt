@@ -1,6 +1,6 @@
 use Rattle.std.proofs.Common.{◌≡◌, ℕ, ◌+◌, ◌-◌, ◌≤◌, List, length, take, drop, refl, sym, ap, arith, length-drop, length-take}
 use Rattle.users.specs.Users.{user_digits}
-use Rattle.apdu.proofs.Overs.{wrote_part, wrote_then}
+use Rattle.apdu.proofs.Writes.{wrote_part, wrote_then}
 use Rattle.apdu.proofs.writer.Writer.user.Goals as goal
 
 pub returns-clause-wrote : goal.returns-clause-wrote

@@ -1,5 +1,5 @@
 -- What one write leaves, and two. Assumes nothing.
-use Rattle.std.proofs.Common.{◌≡◌, ℕ, ◌+◌, ◌-◌, ◌≤◌, List, [], ◌++◌, length, take, drop, sym, ap, ◌∙◌, arith}
+use Rattle.std.proofs.Common.{◌≡◌, ℕ, ◌+◌, ◌-◌, ◌≤◌, List, ◌++◌, length, take, drop, sym, ap, ◌∙◌, arith}
 use borrow.Rule.Slice.PartMut.{put_mid}
 use Rattle.std.proofs.lemmas.List.{append_assoc, take-append-drop, drop-drop, take_at, drop_at, length-append, length-take-le, length-drop}
 use Rattle.apdu.specs.declared.writer.Writer.{Writer}
@@ -11,9 +11,9 @@ unfolding written unwritten
 wrote_part {w} {v} bs ys e k fits left =
     let xs : List ℕ = w.out.now in
     let at : length (take w.at xs) ≡ w.at = length-take-le w.at xs (omega (arith, fits)) in
-    let long : length (take w.at xs ++ bs) ≡ v.at = length-append (take w.at xs) bs ∙ (λ i. at i + length bs) ∙ sym k in
+    let long : length (take w.at xs ++ bs) ≡ v.at = simp length-append (omega (arith, at, k)) in
     let n : v.at - w.at ≡ length bs = omega (arith, k) in
-    let is : v.out.now ≡ (take w.at xs ++ bs) ++ drop (length bs) (drop w.at xs) = left ∙ (λ i. take w.at xs ++ (e i ++ drop (n i) (drop w.at xs))) ∙ sym (append_assoc (take w.at xs) bs (drop (length bs) (drop w.at xs))) in
+    let is : v.out.now ≡ (take w.at xs ++ bs) ++ drop (length bs) (drop w.at xs) = simp (left, e, n, append_assoc) in
     record {
       before = ap (take v.at) is ∙ take_at (take w.at xs ++ bs) _ _ long;
       behind = ap (drop v.at) is ∙ drop_at (take w.at xs ++ bs) _ _ long;
@@ -23,16 +23,9 @@ wrote_part {w} {v} bs ys e k fits left =
 
 -- two writes, the second where the first ended, are one
 pub wrote_then : {w v u : Writer} {a b : List ℕ} → Wrote w a v → Wrote v b u → Wrote w (a ++ b) u
-wrote_then {w} {v} {u} {a} {b} f g =
-    record {
-      before = g.before ∙ (λ i. f.before i ++ b) ∙ append_assoc (written w) a b;
-      behind = g.behind ∙ (λ i. drop (length b) (f.behind i)) ∙ drop-drop (length b) (length a) (unwritten w) ∙ ap (λ n. drop n (unwritten w)) (sym (length-append a b));
-      end = simp length-append (omega (arith, f.end, g.end));
-      size = g.size ∙ f.size;
-    }
+wrote_then {w} {v} {u} {a} {b} f g = grind (arith, append_assoc, drop-drop, length-append)
 
 -- a writer that stood at the front
 pub wrote_front : {w v : Writer} {bs : List ℕ} → w.at ≡ 0 → Wrote w bs v → v.out.now ≡ front bs w.out.now
 unfolding written unwritten
-wrote_front {w} {v} {bs} e h =
-    sym (take-append-drop v.at v.out.now) ∙ (λ i. h.before i ++ h.behind i) ∙ (λ i. (take (e i) w.out.now ++ bs) ++ drop (length bs) (drop (e i) w.out.now))
+wrote_front {w} {v} {bs} e h = sym (take-append-drop v.at v.out.now) ∙ simp (h.before, h.behind, e)
