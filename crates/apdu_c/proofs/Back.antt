@@ -1,92 +1,48 @@
 -- The struct of an APDU makes the same APDU. Assumes nothing.
-use Rattle.std.proofs.Common.{◌≡◌, ℕ, Bool, true, false, List, Some, None, Option, refl}
-use Rattle.apdu.specs.declared.apdus.AuthUnit.{AuthUnit}
+use Rattle.std.proofs.Common.{◌≡◌, ℕ, Some, refl, ap, ◌∙◌}
+use Rattle.std.proofs.lemmas.Bool.{eq-eqb}
+use Rattle.std.specs.Bool.{then_some}
+use Rattle.std.specs.Option.{option_map}
 use Rattle.apdu.specs.declared.apdus.Body.{Body}
 use Rattle.apdu.specs.declared.apdus.Body.TheVariants as body
-use Rattle.apdu.specs.declared.apdus.Invoke.{Invoke}
-use Rattle.apdu.specs.declared.apdus.Invoke.TheVariants as invoke
-use Rattle.apdu.specs.declared.apdus.ReturnResult.{ReturnResult}
-use Rattle.apdu.specs.declared.apdus.ReturnResult.TheVariants as result
-use Rattle.apdu.specs.declared.apdus.WtanParamRes.TheVariants as wtan
-use Rattle.apdu.specs.declared.apdus.WtatInfo.{WtatInfo}
-use Rattle.apdu.specs.declared.apdus.WtatInfo.TheVariants as wtat
-use Rattle.wire.specs.declared.codes.ErrorCode.{ErrorCode}
-use Rattle.wire.specs.declared.codes.ErrorCode.TheVariants.{InvalidServedUserNr, ParamNotAvailable, TemporarilyUnavailable, NotAuthorized, Unspecified}
-use Rattle.wire.specs.declared.codes.Verdict.{Verdict}
-use Rattle.wire.specs.declared.codes.Verdict.TheVariants.{Correct, Incorrect}
-use Rattle.users.specs.declared.UserNumber.{UserNumber}
+use Rattle.apdu.specs.declared.apdus.ByOperation.{ByOperation}
+use Rattle.apdu.specs.declared.apdus.ByOperation.TheVariants.{AuthWtmUser, GetWtatParam, WtatParamEnq, GetWtanParam, WtanParamEnq}
+use Rattle.apdu.specs.Encode.{kind_of_body}
+use Rattle.apdu.specs.Operations.{operation_with}
+use Rattle.apdu.specs.Values.{bind}
+use Rattle.wire.specs.Codes.{kind_of, operation_number, operation_of}
+use Rattle.apdu_c.specs.Flat.{body_parts, filled, flat}
+use Rattle.apdu_c.specs.Forms.{Forms, arguments, results, parts_with, given_with}
+use Rattle.apdu_c.specs.Given.{given_body, fitting}
 use Rattle.apdu_c.specs.Laws.{FlatReadsBack}
-use Rattle.apdu_c.specs.Flat.{flat}
-use Rattle.apdu_c.specs.Given.{apdu_of}
+use Rattle.apdu_c.specs.Parts.{present_bits}
+use Rattle.apdu_c.proofs.Forms.{AllLawful, arguments_lawful, results_lawful, error_lawful, problem_lawful}
 
-module _ (id : ℕ) where
-  abbrev Back : Body → Type 0
-  Back b = apdu_of (flat (record { id = id; body = b })) ≡ Some (record { id = id; body = b })
+module _ (id k : ℕ) where
+  -- the struct of an operation with its part gives it
+  with_back :
+      {A T N : Type 0} (s : Forms A T N) → AllLawful s → (make : ByOperation A T N → Body) (x : ByOperation A T N) →
+      bind (operation_of (operation_number (operation_with x))) (λ o. option_map make (given_with s o (filled id k (operation_number (operation_with x)) (parts_with s x)))) ≡ Some (make x)
+  with_back s l make (AuthWtmUser a) = ap (λ g. option_map make (option_map AuthWtmUser g)) (l.auth_wtm.back id k 1 a)
+  with_back s l make (GetWtatParam t) = ap (λ g. option_map make (option_map GetWtatParam g)) (l.wtat_param.back id k 2 t)
+  with_back s l make (WtatParamEnq t) = ap (λ g. option_map make (option_map WtatParamEnq g)) (l.wtat_param.back id k 3 t)
+  with_back s l make (GetWtanParam n) = ap (λ g. option_map make (option_map GetWtanParam g)) (l.wtan_param.back id k 4 n)
+  with_back s l make (WtanParamEnq n) = ap (λ g. option_map make (option_map WtanParamEnq g)) (l.wtan_param.back id k 5 n)
 
-  auth_wtm : (user : UserNumber) (unit : Option AuthUnit) → Back (body.Invoke (invoke.AuthWtmUser (record { user = user; unit = unit })))
-  auth_wtm user None = refl
-  auth_wtm user (Some u) = refl
+body_back : (id : ℕ) (b : Body) → given_body (kind_of_body b) (flat (record { id = id; body = b })) ≡ Some b
+body_back id (body.Invoke i) = with_back id 1 arguments arguments_lawful body.Invoke i
+body_back id (body.ReturnResult r) = with_back id 2 results results_lawful body.ReturnResult r
+body_back id (body.ReturnError e) = ap (option_map body.ReturnError) (error_lawful.back id 3 0 e)
+body_back id (body.Reject p) = ap (option_map body.Reject) (problem_lawful.back id 4 0 p)
 
-  get_wtat : (user : UserNumber) (computes : Bool) (challenge : Option (List ℕ)) → Back (body.Invoke (invoke.GetWtatParam (record { user = user; computes = computes; challenge = challenge })))
-  get_wtat user true None = refl
-  get_wtat user true (Some c) = refl
-  get_wtat user false None = refl
-  get_wtat user false (Some c) = refl
-
-  wtat_enq : (user : UserNumber) (computes : Bool) (challenge : Option (List ℕ)) → Back (body.Invoke (invoke.WtatParamEnq (record { user = user; computes = computes; challenge = challenge })))
-  wtat_enq user true None = refl
-  wtat_enq user true (Some c) = refl
-  wtat_enq user false None = refl
-  wtat_enq user false (Some c) = refl
-
-  get_wtan : (user : UserNumber) (computes : Bool) (challenge : List ℕ) (algorithm : ℕ) → Back (body.Invoke (invoke.GetWtanParam (record { user = user; computes = computes; challenge = challenge; algorithm = algorithm })))
-  get_wtan user true challenge algorithm = refl
-  get_wtan user false challenge algorithm = refl
-
-  wtan_enq : (user : UserNumber) (computes : Bool) (challenge : List ℕ) (algorithm : ℕ) → Back (body.Invoke (invoke.WtanParamEnq (record { user = user; computes = computes; challenge = challenge; algorithm = algorithm })))
-  wtan_enq user true challenge algorithm = refl
-  wtan_enq user false challenge algorithm = refl
-
-  asked : (i : Invoke) → Back (body.Invoke i)
-  asked (invoke.AuthWtmUser a) = auth_wtm a.user a.unit
-  asked (invoke.GetWtatParam a) = get_wtat a.user a.computes a.challenge
-  asked (invoke.WtatParamEnq a) = wtat_enq a.user a.computes a.challenge
-  asked (invoke.GetWtanParam a) = get_wtan a.user a.computes a.challenge a.algorithm
-  asked (invoke.WtanParamEnq a) = wtan_enq a.user a.computes a.challenge a.algorithm
-
-  judged : (v : Verdict) → Back (body.ReturnResult (result.AuthWtmUser v))
-  judged Correct = refl
-  judged Incorrect = refl
-
-  got_wtat : (algorithm : ℕ) (info : WtatInfo) → Back (body.ReturnResult (result.GetWtatParam (record { algorithm = algorithm; info = info })))
-  got_wtat algorithm (wtat.Unit u) = refl
-  got_wtat algorithm (wtat.Session s) = refl
-
-  told_wtat : (algorithm : ℕ) (info : WtatInfo) → Back (body.ReturnResult (result.WtatParamEnq (record { algorithm = algorithm; info = info })))
-  told_wtat algorithm (wtat.Unit u) = refl
-  told_wtat algorithm (wtat.Session s) = refl
-
-  answered : (r : ReturnResult) → Back (body.ReturnResult r)
-  answered (result.AuthWtmUser v) = judged v
-  answered (result.GetWtatParam r) = got_wtat r.algorithm r.info
-  answered (result.WtatParamEnq r) = told_wtat r.algorithm r.info
-  answered (result.GetWtanParam (wtan.Session s)) = refl
-  answered (result.GetWtanParam (wtan.Response x)) = refl
-  answered (result.WtanParamEnq (wtan.Session s)) = refl
-  answered (result.WtanParamEnq (wtan.Response x)) = refl
-
-  failed : (e : ErrorCode) → Back (body.ReturnError e)
-  failed InvalidServedUserNr = refl
-  failed ParamNotAvailable = refl
-  failed TemporarilyUnavailable = refl
-  failed NotAuthorized = refl
-  failed Unspecified = refl
-
-  back : (b : Body) → Back b
-  back (body.Invoke i) = asked i
-  back (body.ReturnResult r) = answered r
-  back (body.ReturnError e) = failed e
-  back (body.Reject p) = refl
+kind_back : (id : ℕ) (b : Body) → kind_of (flat (record { id = id; body = b })).kind ≡ Some (kind_of_body b)
+kind_back id (body.Invoke i) = refl
+kind_back id (body.ReturnResult r) = refl
+kind_back id (body.ReturnError e) = refl
+kind_back id (body.Reject p) = refl
 
 pub flat_reads_back : FlatReadsBack
-flat_reads_back a = back a.id a.body
+flat_reads_back a =
+    ap (λ k. bind (bind k λ k. given_body k (flat a)) (fitting (flat a))) (kind_back a.id a.body)
+    ∙ (ap (λ b. bind b (fitting (flat a))) (body_back a.id a.body)
+    ∙ ap (λ t. then_some t a) (eq-eqb (present_bits (body_parts a.body)) _ refl))

@@ -1,2 +1,3 @@
+pub mod Forms
 pub mod Back
 pub mod Kept

@@ -4,23 +4,20 @@ use Rattle.refusal.specs.declared.Refusal.{Refusal}
 use Rattle.refusal.specs.declared.Refusal.TheVariants.{ShortSheet, Garbled}
 use Rattle.refusal.specs.Numbers.{refusal_number}
 use Rattle.apdu.specs.declared.apdus.Apdu.{Apdu}
-use Rattle.apdu.specs.declared.apdus.Received.{Received}
-use Rattle.apdu.specs.declared.apdus.Received.TheVariants as received
+use Rattle.apdu.specs.declared.apdus.NoApdu.{NoApdu}
 use Rattle.apdu.specs.Encode.{write_answer, write_buffer}
 use Rattle.apdu_c.specs.declared.fields.Fields.{Fields}
 use Rattle.apdu_c.specs.Flat.{flat}
 
 -- what a read returns: 0 for an APDU
-abbrev pub read_status : Received → ℕ
-read_status (received.Apdu a) = 0
-read_status (received.RejectDue id p) = refusal_number Garbled
-read_status received.Garbled = refusal_number Garbled
+abbrev pub read_status : Result Apdu NoApdu → ℕ
+read_status (Ok a) = 0
+read_status (Err n) = refusal_number Garbled
 
 -- the struct after a read, where it was f before
-abbrev pub read_fields : Received → Fields → Fields
-read_fields (received.Apdu a) f = flat a
-read_fields (received.RejectDue id p) f = f
-read_fields received.Garbled f = f
+abbrev pub read_fields : Result Apdu NoApdu → Fields → Fields
+read_fields (Ok a) f = flat a
+read_fields (Err n) f = f
 
 -- the length of what is written, or why nothing is; None where the fields make no APDU
 abbrev pub write_result : Option Apdu → List ℕ → Result ℕ Refusal

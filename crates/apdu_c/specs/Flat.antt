@@ -7,9 +7,11 @@ use Rattle.apdu.specs.declared.apdus.AuthUnit.{AuthUnit}
 use Rattle.apdu.specs.declared.apdus.Body.{Body}
 use Rattle.apdu.specs.declared.apdus.Body.TheVariants as body
 use Rattle.wire.specs.Codes.{kind_number, operation_number}
-use Rattle.apdu.specs.Encode.{kind_of_body, invoke_operation, result_operation}
+use Rattle.apdu.specs.Encode.{kind_of_body}
+use Rattle.apdu.specs.Operations.{operation_with}
 use Rattle.apdu_c.specs.declared.fields.Fields.{Fields}
-use Rattle.apdu_c.specs.Parts.{Parts, present_bits, body_parts}
+use Rattle.apdu_c.specs.Forms.{given_unit, given_session, arguments, results, error, problem, parts_with}
+use Rattle.apdu_c.specs.Parts.{Parts, present_bits}
 
 -- the value of an array that is absent
 abbrev pub zeros : ℕ → List ℕ
@@ -23,10 +25,17 @@ zero_unit = record { challenge = zeros 8; response = zeros 4 }
 abbrev pub zero_session : AuthSession
 zero_session = record { key = zeros 16; parameter = zeros 8 }
 
+-- the fields 04 to 0D of an APDU
+abbrev pub body_parts : Body → Parts
+body_parts (body.Invoke i) = parts_with arguments i
+body_parts (body.ReturnResult r) = parts_with results r
+body_parts (body.ReturnError e) = error.parts e
+body_parts (body.Reject p) = problem.parts p
+
 -- the operation's number; 0 where there is none
 abbrev pub body_operation : Body → ℕ
-body_operation (body.Invoke i) = operation_number (invoke_operation i)
-body_operation (body.ReturnResult r) = operation_number (result_operation r)
+body_operation (body.Invoke i) = operation_number (operation_with i)
+body_operation (body.ReturnResult r) = operation_number (operation_with r)
 body_operation (body.ReturnError e) = 0
 body_operation (body.Reject p) = 0
 
@@ -50,6 +59,27 @@ filled id kind operation p =
       session_parameter = (unwrap_or p.session zero_session).parameter;
       response = unwrap_or p.response (zeros 4);
     }
+
+-- f with these values, and its own for those that are absent
+abbrev pub put_in : Fields → Parts → Fields
+put_in f p =
+    record f {
+      user = unwrap_or p.user f.user;
+      algorithm = unwrap_or p.algorithm f.algorithm;
+      verdict = unwrap_or p.verdict f.verdict;
+      error = unwrap_or p.error f.error;
+      problem = unwrap_or p.problem f.problem;
+      challenge = unwrap_or p.challenge f.challenge;
+      unit_challenge = (unwrap_or p.unit (given_unit f)).challenge;
+      unit_response = (unwrap_or p.unit (given_unit f)).response;
+      session_key = (unwrap_or p.session (given_session f)).key;
+      session_parameter = (unwrap_or p.session (given_session f)).parameter;
+      response = unwrap_or p.response f.response;
+    }
+
+-- f with these parts
+abbrev pub with_parts : Fields → Parts → Fields
+with_parts f p = record (put_in f p) { present = present_bits p }
 
 -- what C is handed of an APDU
 abbrev pub flat : Apdu → Fields

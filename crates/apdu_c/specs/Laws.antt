@@ -4,7 +4,8 @@ use Rattle.std.specs.Bool.{then_some}
 use Rattle.apdu.specs.declared.apdus.Apdu.{Apdu}
 use Rattle.apdu_c.specs.declared.fields.Fields.{Fields}
 use Rattle.apdu_c.specs.Flat.{filled, flat}
-use Rattle.apdu_c.specs.Given.{has_bit, given_unit, given_session, apdu_of}
+use Rattle.apdu_c.specs.Forms.{has_bit, given_unit, given_session}
+use Rattle.apdu_c.specs.Given.{apdu_of}
 use Rattle.apdu_c.specs.Parts.{Parts}
 
 -- the struct that a read hands out is taken by a write as the same APDU

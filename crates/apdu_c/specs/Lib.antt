@@ -1,4 +1,5 @@
 pub mod Parts
+pub mod Forms
 pub mod Flat
 pub mod Given
 pub mod Calls

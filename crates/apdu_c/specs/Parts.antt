@@ -2,12 +2,7 @@
 use Rattle.std.specs.Prelude.{ℕ, ◌+◌, ◌^◌, Bool, false, cond, List, is_some, Some, None, Option}
 use Rattle.apdu.specs.declared.apdus.AuthSession.{AuthSession}
 use Rattle.apdu.specs.declared.apdus.AuthUnit.{AuthUnit}
-use Rattle.apdu.specs.declared.apdus.Body.{Body}
-use Rattle.apdu.specs.declared.apdus.Body.TheVariants as body
-use Rattle.apdu.specs.declared.apdus.Invoke.{Invoke}
-use Rattle.apdu.specs.declared.apdus.Invoke.TheVariants as invoke
-use Rattle.apdu.specs.declared.apdus.ReturnResult.{ReturnResult}
-use Rattle.apdu.specs.declared.apdus.ReturnResult.TheVariants as result
+use Rattle.apdu.specs.declared.apdus.AuthWtmArg.{AuthWtmArg}
 use Rattle.apdu.specs.declared.apdus.WtanParamArg.{WtanParamArg}
 use Rattle.apdu.specs.declared.apdus.WtanParamRes.{WtanParamRes}
 use Rattle.apdu.specs.declared.apdus.WtanParamRes.TheVariants as wtan
@@ -16,6 +11,8 @@ use Rattle.apdu.specs.declared.apdus.WtatInfo.TheVariants as wtat
 use Rattle.apdu.specs.declared.apdus.WtatParamArg.{WtatParamArg}
 use Rattle.apdu.specs.declared.apdus.WtatParamRes.{WtatParamRes}
 use Rattle.wire.specs.Codes.{verdict_number, error_number}
+use Rattle.wire.specs.declared.codes.ErrorCode.{ErrorCode}
+use Rattle.wire.specs.declared.codes.Verdict.{Verdict}
 
 -- the fields 04 to 0D, those that are there, with their values as C has them
 pub record Parts : Type 0 where
@@ -52,6 +49,10 @@ answered algorithm unit session response verdict = record { user = None; compute
 abbrev pub refused : Option ℕ → Option ℕ → Parts
 refused error problem = record { user = None; computes = false; challenge = None; algorithm = None; unit = None; session = None; response = None; verdict = None; error = error; problem = problem }
 
+-- the argument of authWtmUser
+abbrev pub auth_wtm_arg_parts : AuthWtmArg → Parts
+auth_wtm_arg_parts a = asked a.user.key false None None a.unit
+
 -- the argument of getWtatParam and wtatParamEnq
 abbrev pub wtat_arg_parts : WtatParamArg → Parts
 wtat_arg_parts a = asked a.user.key a.computes a.challenge None None
@@ -60,13 +61,9 @@ wtat_arg_parts a = asked a.user.key a.computes a.challenge None None
 abbrev pub wtan_arg_parts : WtanParamArg → Parts
 wtan_arg_parts a = asked a.user.key a.computes (Some a.challenge) (Some a.algorithm) None
 
--- the argument of each operation
-abbrev pub invoke_parts : Invoke → Parts
-invoke_parts (invoke.AuthWtmUser a) = asked a.user.key false None None a.unit
-invoke_parts (invoke.GetWtatParam a) = wtat_arg_parts a
-invoke_parts (invoke.WtatParamEnq a) = wtat_arg_parts a
-invoke_parts (invoke.GetWtanParam a) = wtan_arg_parts a
-invoke_parts (invoke.WtanParamEnq a) = wtan_arg_parts a
+-- the result of authWtmUser
+abbrev pub verdict_parts : Verdict → Parts
+verdict_parts v = answered None None None None (Some (verdict_number v))
 
 -- the algorithm, with a unit or a session
 abbrev pub wtat_info_parts : ℕ → WtatInfo → Parts
@@ -82,17 +79,8 @@ abbrev pub wtan_res_parts : WtanParamRes → Parts
 wtan_res_parts (wtan.Session s) = answered None None (Some s) None None
 wtan_res_parts (wtan.Response r) = answered None None None (Some r) None
 
--- the result of each operation
-abbrev pub result_parts : ReturnResult → Parts
-result_parts (result.AuthWtmUser v) = answered None None None None (Some (verdict_number v))
-result_parts (result.GetWtatParam r) = wtat_res_parts r
-result_parts (result.WtatParamEnq r) = wtat_res_parts r
-result_parts (result.GetWtanParam r) = wtan_res_parts r
-result_parts (result.WtanParamEnq r) = wtan_res_parts r
+abbrev pub error_parts : ErrorCode → Parts
+error_parts e = refused (Some (error_number e)) None
 
--- the fields 04 to 0D of an APDU
-abbrev pub body_parts : Body → Parts
-body_parts (body.Invoke i) = invoke_parts i
-body_parts (body.ReturnResult r) = result_parts r
-body_parts (body.ReturnError e) = refused (Some (error_number e)) None
-body_parts (body.Reject p) = refused None (Some p)
+abbrev pub problem_parts : ℕ → Parts
+problem_parts p = refused None (Some p)

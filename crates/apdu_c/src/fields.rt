@@ -19,7 +19,8 @@ pub struct Fields {
     pub response: [u8; 4], // 0A
 }
 
-// All zero: no field is there.
+// All zero: no field is there. No derived Default: its contract says of each array only that its elements
+// are 0, and `from` did not prove from that.
 pub(crate) const BLANK: Fields = Fields {
     user: 0,
     present: 0,

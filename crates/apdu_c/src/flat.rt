@@ -1,185 +1,70 @@
 // What C is handed of an APDU.
-ghost use Rattle.std.specs.Prelude.{◌≡◌, false, None};
-ghost use Rattle.wire.specs.Codes.{kind_number, operation_number};
-ghost use Rattle.apdu.specs.Encode.{invoke_operation, result_operation};
-ghost use Rattle.wire.specs.declared.codes.Kind.TheVariants as kind;
-ghost use Rattle.wire.specs.declared.codes.Operation.TheVariants as operation;
-ghost use Rattle.apdu_c.specs.Flat.{filled, flat};
-ghost use Rattle.apdu_c.specs.Parts.{asked, wtat_arg_parts, wtan_arg_parts, invoke_parts, wtat_res_parts, wtan_res_parts, result_parts};
+ghost use Rattle.std.specs.Prelude.{◌≡◌};
+ghost use Rattle.wire.specs.Codes.{operation_number};
+ghost use Rattle.apdu.specs.Operations.{operation_with};
+ghost use Rattle.apdu_c.specs.Flat.{flat, with_parts};
+ghost use Rattle.apdu_c.specs.Forms.{parts_with};
 
 use crate::fields::{BLANK, Fields};
-use crate::sets::{
-    ERROR, PROBLEM, RESPONSE, SESSION, VERDICT, auth_wtm_arg_set, wtan_arg_set, wtat_arg_set,
-    wtat_res_set,
-};
-use apdu::{
-    Apdu, AuthUnit, AuthWtmArg, Body, Invoke, ReturnResult, WtanParamArg, WtanParamRes, WtatInfo,
-    WtatParamArg, WtatParamRes,
-};
+use crate::part::Part;
+use apdu::{Apdu, Body, ByOperation};
 use wire::{Kind, Operation};
 
-const ZERO_UNIT: AuthUnit = AuthUnit {
-    challenge: [0; 8],
-    response: [0; 4],
-};
-
-fn auth_wtm_arg_fields(id: u16, arg: &AuthWtmArg) -> Fields
-    ensures { result ≡ filled id (kind_number kind.Invoke) (operation_number operation.AuthWtmUser) (asked arg.now.user.key false None None arg.now.unit) }
-{
-    let AuthUnit {
-        challenge: unit_challenge,
-        response: unit_response,
-    } = arg.unit.unwrap_or(ZERO_UNIT);
-    Fields {
-        user: arg.user.key,
-        present: auth_wtm_arg_set(arg),
-        id,
-        kind: Kind::Invoke.number(),
-        operation: Operation::AuthWtmUser.number(),
-        unit_challenge,
-        unit_response,
-        ..BLANK
+impl Fields {
+    fn put_part<P: Part>(&mut self, part: &P)
+        ensures { self.new ≡ with_parts self.old (P.form.parts part.now) }
+    {
+        self.present = part.present();
+        part.put(self);
     }
-}
 
-fn wtat_arg_fields(id: u16, operation: Operation, arg: &WtatParamArg) -> Fields
-    ensures { result ≡ filled id (kind_number kind.Invoke) (operation_number operation) (wtat_arg_parts arg.now) }
-{
-    Fields {
-        user: arg.user.key,
-        present: wtat_arg_set(arg),
-        id,
-        kind: Kind::Invoke.number(),
-        operation: operation.number(),
-        challenge: arg.challenge.unwrap_or([0; 8]),
-        ..BLANK
+    fn put_operation<P: Part>(&mut self, operation: Operation, part: &P)
+        ensures { self.new ≡ with_parts (record self.old { operation = operation_number operation }) (P.form.parts part.now) }
+    {
+        self.operation = operation.into();
+        self.put_part(part);
     }
-}
 
-fn wtan_arg_fields(id: u16, operation: Operation, arg: &WtanParamArg) -> Fields
-    ensures { result ≡ filled id (kind_number kind.Invoke) (operation_number operation) (wtan_arg_parts arg.now) }
-{
-    Fields {
-        user: arg.user.key,
-        present: wtan_arg_set(arg),
-        id,
-        kind: Kind::Invoke.number(),
-        operation: operation.number(),
-        challenge: arg.challenge,
-        algorithm: arg.algorithm,
-        ..BLANK
-    }
-}
-
-fn wtat_res_fields(id: u16, operation: Operation, res: &WtatParamRes) -> Fields
-    ensures { result ≡ filled id (kind_number kind.ReturnResult) (operation_number operation) (wtat_res_parts res.now) }
-{
-    let result = Fields {
-        id,
-        kind: Kind::ReturnResult.number(),
-        operation: operation.number(),
-        present: wtat_res_set(res),
-        algorithm: res.algorithm,
-        ..BLANK
-    };
-    match res.info {
-        WtatInfo::Unit(unit) => {
-            let unit_challenge = unit.challenge;
-            let unit_response = unit.response;
-            Fields {
-                unit_challenge,
-                unit_response,
-                ..result
-            }
+    fn put_by_operation<A: Part, T: Part, N: Part>(&mut self, with: &ByOperation<A, T, N>)
+        ensures { self.new ≡ with_parts (record self.old { operation = operation_number (operation_with with.now) }) (parts_with (record { auth_wtm = A.form; wtat_param = T.form; wtan_param = N.form }) with.now) }
+    {
+        match with {
+            ByOperation::AuthWtmUser(part) => self.put_operation(Operation::AuthWtmUser, part),
+            ByOperation::GetWtatParam(part) => self.put_operation(Operation::GetWtatParam, part),
+            ByOperation::WtatParamEnq(part) => self.put_operation(Operation::WtatParamEnq, part),
+            ByOperation::GetWtanParam(part) => self.put_operation(Operation::GetWtanParam, part),
+            ByOperation::WtanParamEnq(part) => self.put_operation(Operation::WtanParamEnq, part),
         }
-        WtatInfo::Session(session) => {
-            let session_key = session.key;
-            let session_parameter = session.parameter;
-            Fields {
-                session_key,
-                session_parameter,
-                ..result
-            }
-        }
-    }
-}
-
-fn wtan_res_fields(id: u16, operation: Operation, res: &WtanParamRes) -> Fields
-    ensures { result ≡ filled id (kind_number kind.ReturnResult) (operation_number operation) (wtan_res_parts res.now) }
-{
-    let result = Fields {
-        id,
-        kind: Kind::ReturnResult.number(),
-        operation: operation.number(),
-        ..BLANK
-    };
-    match res {
-        WtanParamRes::Session(session) => Fields {
-            present: SESSION,
-            session_key: session.key,
-            session_parameter: session.parameter,
-            ..result
-        },
-        WtanParamRes::Response(response) => Fields {
-            present: RESPONSE,
-            response: *response,
-            ..result
-        },
-    }
-}
-
-fn invoke_fields(id: u16, invoke: &Invoke) -> Fields
-    ensures { result ≡ filled id (kind_number kind.Invoke) (operation_number (invoke_operation invoke.now)) (invoke_parts invoke.now) }
-{
-    match invoke {
-        Invoke::AuthWtmUser(arg) => auth_wtm_arg_fields(id, arg),
-        Invoke::GetWtatParam(arg) => wtat_arg_fields(id, Operation::GetWtatParam, arg),
-        Invoke::WtatParamEnq(arg) => wtat_arg_fields(id, Operation::WtatParamEnq, arg),
-        Invoke::GetWtanParam(arg) => wtan_arg_fields(id, Operation::GetWtanParam, arg),
-        Invoke::WtanParamEnq(arg) => wtan_arg_fields(id, Operation::WtanParamEnq, arg),
-    }
-}
-
-fn result_fields(id: u16, outcome: &ReturnResult) -> Fields
-    ensures { result ≡ filled id (kind_number kind.ReturnResult) (operation_number (result_operation outcome.now)) (result_parts outcome.now) }
-{
-    match outcome {
-        ReturnResult::AuthWtmUser(verdict) => Fields {
-            id,
-            kind: Kind::ReturnResult.number(),
-            operation: Operation::AuthWtmUser.number(),
-            present: VERDICT,
-            verdict: verdict.number(),
-            ..BLANK
-        },
-        ReturnResult::GetWtatParam(res) => wtat_res_fields(id, Operation::GetWtatParam, res),
-        ReturnResult::WtatParamEnq(res) => wtat_res_fields(id, Operation::WtatParamEnq, res),
-        ReturnResult::GetWtanParam(res) => wtan_res_fields(id, Operation::GetWtanParam, res),
-        ReturnResult::WtanParamEnq(res) => wtan_res_fields(id, Operation::WtanParamEnq, res),
     }
 }
 
 // The fields of an APDU; a value that is absent is zero.
-pub(crate) fn fields_of(apdu: &Apdu) -> Fields
-    ensures { result ≡ flat apdu.now }
-{
-    let id = apdu.id;
-    match &apdu.body {
-        Body::Invoke(invoke) => invoke_fields(id, invoke),
-        Body::ReturnResult(result) => result_fields(id, result),
-        Body::ReturnError(error) => Fields {
-            id,
-            kind: Kind::ReturnError.number(),
-            present: ERROR,
-            error: error.number(),
+impl From<&Apdu> for Fields {
+    ghost from_gives = { λ apdu fields. fields ≡ flat apdu.now };
+
+    fn from(apdu: &Apdu) -> Fields {
+        let mut fields = Fields {
+            id: apdu.id,
             ..BLANK
-        },
-        Body::Reject(problem) => Fields {
-            id,
-            kind: Kind::Reject.number(),
-            present: PROBLEM,
-            problem: *problem,
-            ..BLANK
-        },
+        };
+        match &apdu.body {
+            Body::Invoke(invoke) => {
+                fields.kind = Kind::Invoke.into();
+                fields.put_by_operation(invoke);
+            }
+            Body::ReturnResult(result) => {
+                fields.kind = Kind::ReturnResult.into();
+                fields.put_by_operation(result);
+            }
+            Body::ReturnError(error) => {
+                fields.kind = Kind::ReturnError.into();
+                fields.put_part(error);
+            }
+            Body::Reject(problem) => {
+                fields.kind = Kind::Reject.into();
+                fields.put_part(problem);
+            }
+        }
+        fields
     }
 }

@@ -3,33 +3,18 @@
 
 ghost use Rattle.std.specs.Prelude.{◌≡◌};
 ghost use Rattle.apdu.specs.Decode.{received_as};
-ghost use Rattle.apdu_c.specs.Calls.{read_status, read_fields, write_status, write_out, write_used};
+ghost use Rattle.apdu_c.specs.Calls.{read_status, read_fields, write_result, write_status, write_out, write_used};
 ghost use Rattle.apdu_c.specs.Given.{apdu_of};
 ghost use Rattle.apdu_c.specs.Laws.{FlatReadsBack, GivenIsFlat};
 
 mod fields;
 mod flat;
 mod given;
-mod sets;
+mod part;
 
-use apdu::{Received, read};
+use apdu::{read, write};
 pub use fields::Fields;
-use flat::fields_of;
 use refusal::Refusal;
-
-fn read_fields(bytes: &[u8], fields: &mut Fields) -> u8
-    ensures value { result ≡ read_status (received_as bytes.now) }
-    ensures after { fields.new ≡ read_fields (received_as bytes.now) fields.old }
-{
-    match &read(bytes) {
-        Received::Apdu(apdu) => {
-            *fields = fields_of(apdu);
-            0
-        }
-        Received::RejectDue { .. } => Refusal::Garbled.number(),
-        Received::Garbled => Refusal::Garbled.number(),
-    }
-}
 
 // Sets the struct to the fields of the APDU that the bytes are, and returns 0. Bytes that are no APDU
 // are garbled, also those that are due a reject, and leave the struct as it was.
@@ -39,15 +24,25 @@ pub extern "C" fn apdu_read(bytes: &[u8], fields: &mut Fields) -> u8
     ensures after { fields.new ≡ read_fields (received_as bytes.now) fields.old }
     ensures back { FlatReadsBack }
 {
-    read_fields(bytes, fields)
+    match &read(bytes) {
+        Ok(apdu) => {
+            *fields = Fields::from(apdu);
+            0
+        }
+        Err(_) => Refusal::Garbled.into(),
+    }
 }
 
-fn write_fields(fields: &Fields, out: &mut [u8], used: &mut usize) -> u8
-    ensures value { result ≡ write_status (apdu_of fields.now) out.old }
+// Writes the APDU that the fields make, and says how long it is.
+fn write_fields(fields: &Fields, out: &mut [u8]) -> Result<usize, Refusal>
+    ensures answer { result ≡ write_result (apdu_of fields.now) out.old }
     ensures buffer { out.new ≡ write_out (apdu_of fields.now) out.old }
-    ensures count { used.new ≡ write_used (apdu_of fields.now) out.old used.old }
 {
-    fields.write(out, used)
+    // The size is looked at first, also where the fields make no APDU.
+    if out.len() < 64 {
+        return Err(Refusal::ShortSheet);
+    }
+    write(&fields.apdu().ok_or(Refusal::Garbled)?, out)
 }
 
 // Writes the APDU that the fields make to the front of the buffer, whose rest stays as it was, sets
@@ -60,5 +55,11 @@ pub extern "C" fn apdu_write(fields: &Fields, out: &mut [u8], used: &mut usize) 
     ensures count { used.new ≡ write_used (apdu_of fields.now) out.old used.old }
     ensures kept { GivenIsFlat }
 {
-    write_fields(fields, out, used)
+    match write_fields(fields, out) {
+        Ok(length) => {
+            *used = length;
+            0
+        }
+        Err(refusal) => refusal.into(),
+    }
 }

@@ -1,6 +1,8 @@
-use Rattle.std.proofs.Common.{rules}
 use Rattle.apdu_c.proofs.Back.{flat_reads_back}
 use Rattle.apdu_c.proofs.apdu_read.Goals as goal
 
-pub returns : goal.returns
-returns c = record { value = search rules; after = search rules; back = flat_reads_back }
+pub returns-in-Ok-clause-back : goal.returns-in-Ok-clause-back
+returns-in-Ok-clause-back c = flat_reads_back
+
+pub returns-in-Err-clause-back : goal.returns-in-Err-clause-back
+returns-in-Err-clause-back c = flat_reads_back

@@ -1,6 +1,8 @@
-use Rattle.std.proofs.Common.{rules}
 use Rattle.apdu_c.proofs.Kept.{given_is_flat}
 use Rattle.apdu_c.proofs.apdu_write.Goals as goal
 
-pub returns : goal.returns
-returns c = record { value = search rules; buffer = search rules; count = search rules; kept = given_is_flat }
+pub returns-in-Ok-clause-kept : goal.returns-in-Ok-clause-kept
+returns-in-Ok-clause-kept c = given_is_flat
+
+pub returns-in-Err-clause-kept : goal.returns-in-Err-clause-kept
+returns-in-Err-clause-kept c = given_is_flat
