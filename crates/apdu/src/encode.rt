@@ -45,8 +45,8 @@ impl<A: Row, T: Row, N: Row> ByOperation<A, T, N> {
 }
 
 impl Invoke {
-    // Whether its user number is lawful. A method of the arguments in place of the five arms was tried: writing
-    // then took a tenth longer.
+    // Whether its user number is lawful. A method `is_right` of the arguments in place of the five arms was tried:
+    // writing then took more than a tenth longer.
     fn is_right(&self) -> bool
         ensures { result ≡ invoke_right self.now }
     {

@@ -19,7 +19,8 @@ pub(crate) trait Row: Sized {
     fn read(fields: &mut Reader<'_>) -> Option<Self>
         ensures { result ≡ shaped shape (unread fields.old) };
 
-    // Writes the row that tells it, 36 bytes at most.
+    // Writes the row that tells it, 36 bytes at most. Where two operations have the row it is `inline(always)`, for
+    // the reason that stands at `Writer`.
     fn put(&self, writer: &mut Writer<'_>)
         requires right { shape.right self.now ≡ true }
         requires fits { HasRoom writer.old 36 }

@@ -13,7 +13,7 @@ use users::UserNumber;
 use wire::tags;
 
 // A lent buffer, and the place in it where the next field goes. What is written from several places is
-// `inline(always)`, so that a writer stays in registers: out of line, writing took a tenth longer.
+// `inline(always)`, so that a writer stays in registers: out of line, writing took more than a tenth longer.
 #[derive(Drop)]
 pub(crate) struct Writer<'a> {
     out: &'a mut [u8],
