@@ -103,7 +103,7 @@ pub struct Apdu {
 }
 
 // Why a string of bytes is no APDU.
-#[derive(Clone, Copy)]
+#[derive(Clone, Copy, PartialEq, Eq, Debug)]
 pub enum NoApdu {
     // It is an invoke to be answered by a reject with this problem.
     RejectDue { id: u16, problem: Problem },

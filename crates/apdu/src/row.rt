@@ -15,7 +15,8 @@ use wire::{ErrorCode, Reader, Verdict, tags};
 pub(crate) trait Row: Sized {
     ghost shape: { Shape Self };
 
-    // What the bytes say to their end, if they are such a row.
+    // What the bytes say to their end, if they are such a row. Codes are read by `try_from` in each: of a conversion at a
+    // type parameter only a relation is known, which would make the contracts longer than the line.
     fn read(fields: &mut Reader<'_>) -> Option<Self>
         ensures { result ≡ shaped shape (unread fields.old) };
 
@@ -42,7 +43,8 @@ impl Row for AuthWtmArg {
 
     fn read(fields: &mut Reader<'_>) -> Option<AuthWtmArg> {
         let user = UserNumber::from_digits(fields.take_value(tags::USER)?)?;
-        // An Option in an Option has no `transpose`, so that this `match` and the next one stay.
+        // No plainer as one function with a closure, here and for the challenge below: the closure's meaning would have to
+        // be told in the contract, and these two arms would become a call with one.
         let unit = match fields.take_value(tags::UNIT) {
             None => None,
             Some(value) => Some(unit_in(value)?),
@@ -131,7 +133,8 @@ impl Row for Verdict {
     }
 }
 
-// One of unit and session, and not both.
+// One of unit and session, and not both. The same stands once more, for session and response: one function would take
+// two closures, and be no plainer than two arms.
 fn wtat_info_in(unit: Option<&[u8]>, session: Option<&[u8]>) -> Option<WtatInfo>
     ensures { result ≡ wtat_info (option_map (λ x. x.now) unit.entry) (option_map (λ x. x.now) session.entry) }
 {

@@ -1,4 +1,5 @@
-// The fields of an APDU, for a C program.
+// The fields of an APDU, for a C program: numbers for kinds, bits for what is there, and zero for what is absent, since
+// C is to read it.
 #[repr(C)]
 #[derive(Clone, Copy)]
 pub struct Fields {
@@ -19,8 +20,8 @@ pub struct Fields {
     pub response: [u8; 4], // 0A
 }
 
-// All zero: no field is there. No derived Default: its contract says of each array only that its elements
-// are 0, and `from` did not prove from that.
+// All zero: no field is there. A derived Default was tried, and the proof did not close: its contract says of each array
+// only that its elements are 0.
 pub(crate) const BLANK: Fields = Fields {
     user: 0,
     present: 0,

@@ -1,6 +1,8 @@
 // The APDU that the fields from C make.
 ghost use Rattle.std.specs.Prelude.{◌≡◌, ◌==◌};
 ghost use Rattle.std.specs.Bool.{then_some};
+ghost use Rattle.std.specs.Option.{ok_or};
+ghost use Rattle.refusal.specs.declared.Refusal.TheVariants.{Garbled};
 ghost use Rattle.wire.specs.Codes.{kind_of, operation_of};
 ghost use Rattle.apdu.specs.Values.{bind};
 ghost use Rattle.apdu_c.specs.Flat.{body_parts};
@@ -11,6 +13,7 @@ ghost use Rattle.apdu_c.specs.Parts.{present_bits};
 use crate::fields::Fields;
 use crate::part::Part;
 use apdu::{Apdu, Body, ByOperation};
+use refusal::Refusal;
 use wire::{Kind, Operation};
 
 impl Fields {
@@ -44,12 +47,19 @@ impl Fields {
             _ => None,
         }
     }
+}
 
-    // The APDU that they make.
-    pub(crate) fn apdu(&self) -> Option<Apdu>
-        ensures { result ≡ apdu_of self.now }
-    {
-        let body = self.body()?;
-        Some(Apdu { id: self.id, body })
+// The APDU that they make.
+impl TryFrom<&Fields> for Apdu {
+    type Error = Refusal;
+
+    ghost try_from_gives = { λ fields answer. answer ≡ ok_or (apdu_of fields.now) Garbled };
+
+    fn try_from(fields: &Fields) -> Result<Apdu, Refusal> {
+        let body = fields.body().ok_or(Refusal::Garbled)?;
+        Ok(Apdu {
+            id: fields.id,
+            body,
+        })
     }
 }

@@ -12,7 +12,7 @@ mod flat;
 mod given;
 mod part;
 
-use apdu::{read, write};
+use apdu::{Apdu, read, write};
 pub use fields::Fields;
 use refusal::Refusal;
 
@@ -33,7 +33,7 @@ pub extern "C" fn apdu_read(bytes: &[u8], fields: &mut Fields) -> u8
     }
 }
 
-// Writes the APDU that the fields make, and says how long it is.
+// Writes the APDU that the fields make, and says how long it is. C is handed a number and a length in place of the Result.
 fn write_fields(fields: &Fields, out: &mut [u8]) -> Result<usize, Refusal>
     ensures answer { result ≡ write_result (apdu_of fields.now) out.old }
     ensures buffer { out.new ≡ write_out (apdu_of fields.now) out.old }
@@ -42,7 +42,7 @@ fn write_fields(fields: &Fields, out: &mut [u8]) -> Result<usize, Refusal>
     if out.len() < 64 {
         return Err(Refusal::ShortSheet);
     }
-    write(&fields.apdu().ok_or(Refusal::Garbled)?, out)
+    write(&Apdu::try_from(fields)?, out)
 }
 
 // Writes the APDU that the fields make to the front of the buffer, whose rest stays as it was, sets

@@ -9,27 +9,27 @@ use apdu::{
     AuthSession, AuthUnit, AuthWtmArg, UserNumber, WtanParamArg, WtanParamRes, WtatInfo,
     WtatParamArg, WtatParamRes,
 };
-use wire::{ErrorCode, Verdict};
+use wire::{ErrorCode, Verdict, tags};
 
-const USER: u16 = 1 << 4;
+const USER: u16 = 1 << tags::USER;
 
-const COMPUTES: u16 = 1 << 5;
+const COMPUTES: u16 = 1 << tags::CAN_COMPUTE;
 
-const CHALLENGE: u16 = 1 << 6;
+const CHALLENGE: u16 = 1 << tags::CHALLENGE;
 
-const ALGORITHM: u16 = 1 << 7;
+const ALGORITHM: u16 = 1 << tags::ALGORITHM;
 
-const UNIT: u16 = 1 << 8;
+const UNIT: u16 = 1 << tags::UNIT;
 
-const SESSION: u16 = 1 << 9;
+const SESSION: u16 = 1 << tags::SESSION;
 
-const RESPONSE: u16 = 1 << 10;
+const RESPONSE: u16 = 1 << tags::RESPONSE;
 
-const VERDICT: u16 = 1 << 11;
+const VERDICT: u16 = 1 << tags::VERDICT;
 
-const ERROR: u16 = 1 << 12;
+const ERROR: u16 = 1 << tags::ERROR;
 
-const PROBLEM: u16 = 1 << 13;
+const PROBLEM: u16 = 1 << tags::PROBLEM;
 
 pub(crate) trait Part: Sized + Drop {
     ghost form: { Form Self };

@@ -3,6 +3,8 @@ ghost use Rattle.std.specs.Prelude.{◌≡◌};
 ghost use Rattle.std.specs.Option.{ok_or};
 ghost use Rattle.exchange.specs.FitOut.{timer_number, timer_of_number, duration};
 
+use wire::UnknownNumber;
+
 #[derive(Clone, Copy)]
 pub enum Timer {
     T1 = 1,
@@ -30,7 +32,8 @@ pub struct FitOut {
     pub can_compute: bool,
 }
 
-// The number under which a timer's expiry is reported.
+// The number under which a timer's expiry is reported. Conversions of its own, as each code list has them: `as` works
+// on no type parameter.
 impl From<Timer> for u8 {
     ghost from_gives = { λ timer n. n ≡ timer_number timer };
 
@@ -39,16 +42,12 @@ impl From<Timer> for u8 {
     }
 }
 
-// A number that no timer has.
-#[derive(Clone, Copy, PartialEq, Eq, Debug)]
-pub struct UnknownTimer(pub u8);
-
 impl TryFrom<u8> for Timer {
-    type Error = UnknownTimer;
+    type Error = UnknownNumber;
 
     ghost try_from_gives = { λ n answer. answer ≡ ok_or (timer_of_number n) (record { 0 = n }) };
 
-    fn try_from(number: u8) -> Result<Timer, UnknownTimer> {
+    fn try_from(number: u8) -> Result<Timer, UnknownNumber> {
         match number {
             1 => Ok(Timer::T1),
             2 => Ok(Timer::T2),
@@ -56,7 +55,7 @@ impl TryFrom<u8> for Timer {
             4 => Ok(Timer::T4),
             5 => Ok(Timer::T5),
             6 => Ok(Timer::Tr),
-            _ => Err(UnknownTimer(number)),
+            _ => Err(UnknownNumber(number)),
         }
     }
 }

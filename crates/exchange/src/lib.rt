@@ -12,7 +12,7 @@ mod service;
 mod table;
 
 pub use dialogue::{Dialogue, OwnNumber, State};
-pub use fit_out::{FitOut, Timer, UnknownTimer};
+pub use fit_out::{FitOut, Timer};
 pub use in_service::Exchange;
 pub use link::{Link, add_link};
 pub use outcome::{Cause, Done, Report};

@@ -21,7 +21,8 @@ pub struct Service {
 const LAST_READING: u64 = 1 << 40;
 
 impl Service {
-    // The checks of every call: the buffer's size, then the reading.
+    // The checks of every call: the buffer's size, then the reading. Both are parameters of the public calls, which keep
+    // theirs.
     pub(crate) fn check_time(&self, reading: u64, size: usize) -> Result<(), Refusal>
         ensures value { result ≡ timely self.now reading size }
         ensures passed { OnOk result (Timely reading size) }

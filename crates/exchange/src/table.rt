@@ -24,7 +24,7 @@ impl Service {
     }
 
     // Of the dialogues whose timer ends at or before the reading, the one whose timer ends first,
-    // the lowest name on a tie, and its place. A rule of the project asks for a loop here.
+    // the lowest name on a tie, and its place: a loop, by a rule of the project.
     pub(crate) fn first_to_end(&self, reading: u64) -> Option<(usize, Dialogue)>
         ensures value { result ≡ first_ended reading self.now.dialogues }
         ensures within { IfSome result (λ p. p.0 < length self.now.dialogues) }

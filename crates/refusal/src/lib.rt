@@ -31,10 +31,12 @@ pub enum Refusal {
     Misfitted = 10,
 }
 
-// A number that no refusal has.
+// A number that no refusal has. The code lists of another crate have an error of their own, since neither crate stands
+// on the other.
 #[derive(Clone, Copy, PartialEq, Eq, Debug)]
 pub struct UnknownRefusal(pub u8);
 
+// Conversions of its own, as each code list has them: `as` works on no type parameter.
 impl From<Refusal> for u8 {
     ghost from_gives = { λ refusal n. n ≡ refusal_number refusal };
 
@@ -64,11 +66,11 @@ impl TryFrom<u8> for Refusal {
     }
 }
 
-impl fmt::Display for Refusal {
-    ghost output = { λ refusal. Some (refusal_name refusal) };
-
-    fn fmt<W: fmt::Write>(&self, f: &mut fmt::Formatter<W>) -> fmt::Result {
-        f.write_str(match self {
+impl Refusal {
+    pub fn name(self) -> &'static str
+        ensures { result.now ≡ refusal_name self }
+    {
+        match self {
             Refusal::ShortSheet => "short sheet",
             Refusal::ClockBack => "clock back",
             Refusal::TimerDue => "timer due",
@@ -78,7 +80,15 @@ impl fmt::Display for Refusal {
             Refusal::Full => "full",
             Refusal::Spent => "spent",
             Refusal::Misfitted => "misfitted",
-        })
+        }
+    }
+}
+
+impl fmt::Display for Refusal {
+    ghost output = { λ refusal. Some (refusal_name refusal) };
+
+    fn fmt<W: fmt::Write>(&self, f: &mut fmt::Formatter<W>) -> fmt::Result {
+        f.write_str(self.name())
     }
 }
 

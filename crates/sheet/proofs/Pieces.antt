@@ -7,7 +7,7 @@ use Rattle.sheet.specs.Records.{read_entry}
 use Rattle.refusal.specs.declared.Refusal.{Refusal}
 use Rattle.exchange.specs.declared.service.Service.{Service}
 use Rattle.sheet.specs.Bench.{State, AfterRecord, first_taken, taken}
-use Rattle.sheet.specs.Run.{Piece, whole, cut_off, piece, pieces, pieces_of, blank, record_after, run_on, run_from, run_pieces, sheet_of}
+use Rattle.sheet.specs.Run.{Piece, whole, piece, pieces, pieces_of, blank, record_after, run_on, run_from, run_pieces, sheet_of}
 
 none_some : {X : Type 0} {x : X} → None ≡ Some x → ⊥
 none_some e = let z : ◌≡◌ {A = ℕ} 0 1 = cc in omega arith
@@ -50,9 +50,6 @@ some_pieces bs o y e =
     let k : ℕ = length bs - 1 in
     let is : length bs ≡ suc k = omega (arith, ne) in
     (k, is, ap (λ (n : ℕ). pieces n bs) is ∙ rw y (ap (piece (pieces k)) e))
-
-pub pieces_cut : (bs : List ℕ) → is_nothing bs ≡ false → next_field bs ≡ None → pieces_of bs ≡ cut_off ∷ []
-pieces_cut bs y e = (some_pieces bs None y e).2
 
 pub pieces_whole : (bs : List ℕ) (f : Cut) → next_field bs ≡ Some f → pieces_of bs ≡ whole f.tag f.value ∷ pieces_of f.rest
 pieces_whole bs f e =

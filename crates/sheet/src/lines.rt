@@ -10,7 +10,7 @@ use refusal::Refusal;
 use std::alloc::AllocError;
 use wire::UnknownNumber;
 
-// What a record of a sheet says, by its tag.
+// What a record of a sheet says, by its tag. A conversion of its own, as each code list has one.
 #[derive(Clone, Copy, PartialEq, Eq, Debug)]
 pub enum Answer {
     Sent = 0x30,
@@ -35,7 +35,8 @@ impl TryFrom<u8> for Answer {
     }
 }
 
-// The number of a report of a failure, and that of a failure by expiry.
+// The number of a report of a failure, and that of a failure by expiry. Constants, since reports and causes carry values,
+// so that the numbers are no discriminants of theirs.
 pub const FAILURE: u8 = 3;
 
 pub const EXPIRY: u8 = 3;
@@ -74,7 +75,8 @@ fn add_sent(peer: u8, apdu: &[u8], sheet: &mut Vec<u8>) -> Result<(), AllocError
     sheet.extend_from_slice(apdu)
 }
 
-// Adds the record of an outcome to the sheet.
+// Adds the record of an outcome to the sheet. Each is one slice with its head, which is plainer than a field and its
+// value added apart.
 pub(crate) fn add_record(
     outcome: &Result<Done, Refusal>,
     buffer: &[u8; 64],

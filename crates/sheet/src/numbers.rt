@@ -1,4 +1,4 @@
-// Numbers in several bytes, high byte first.
+// Numbers in several bytes, high byte first. Two functions, since `from_be_bytes` is on no type parameter.
 ghost use Rattle.std.specs.Prelude.{◌≡◌, ◌+◌, ◌≤◌, length};
 ghost use Rattle.sheet.specs.Records.{four_at, big_endian};
 

@@ -77,7 +77,8 @@ fn clock(value: &[u8]) -> Option<Record<'_>>
 }
 
 impl<'a> Record<'a> {
-    // What a field of a tape asks. None where its tag is unknown, or its value has a wrong size.
+    // What a field of a tape asks. None where its tag is unknown, or its value has a wrong size. A name, and no `TryFrom`:
+    // the error of a conversion could tell no more than None.
     pub fn read(field: Field<'a>) -> Option<Record<'a>>
         ensures { seen result ≡ read_entry field.entry.tag field.entry.value.now }
     {

@@ -52,12 +52,14 @@ fn last_digit(n: u64) -> u8
     b'0' + (n % 10) as u8
 }
 
-// As many digits of a number as there are places, the last digit in the last place.
+// As many digits of a number as there are places, the last digit in the last place. Into lent places, which cannot
+// fail, and so no Display.
 fn put_digits(places: &mut [u8], n: u64)
     ensures { places.new ≡ digits (length places.old) n }
 {
     let mut n = n;
-    // Not `places.iter_mut().rev()`: no fact is known of a slice behind an adapter of `iter_mut`.
+    // `places.iter_mut().rev()` was tried, and the proof did not close: of a slice behind an adapter of `iter_mut` no
+    // element is known.
     for i in (0..places.len()).rev() {
         places[i] = last_digit(n);
         n /= 10;

@@ -10,8 +10,9 @@ pub struct Field<'a> {
     pub value: &'a [u8],
 }
 
-// The bytes that are not read yet.
-#[derive(Clone, Drop)]
+// The bytes that are not read yet. `unread` names them, and no model does: the clauses and laws of the crates above
+// speak of it.
+#[derive(Drop)]
 pub struct Reader<'a> {
     rest: &'a [u8],
 }

@@ -1,9 +1,9 @@
-use Rattle.std.proofs.Common.{[], ◌++◌, Ok, Err, sym, ap, ◌∙◌, subst}
+use Rattle.std.proofs.Common.{[], ◌++◌, Ok, sym, ap, ◌∙◌, subst}
 use Rattle.wire.specs.Fields.{next_field, unread, field}
 use Rattle.sheet.specs.Adds.{Adds}
 use Rattle.sheet.specs.Bench.{State}
 use Rattle.sheet.specs.Run.{pieces_of, run_on}
-use Rattle.sheet.proofs.Growth.{adds_then, adds_short}
+use Rattle.sheet.proofs.Growth.{adds_then}
 use Rattle.sheet.proofs.Pieces.{first}
 use Rattle.sheet.proofs.run.run_all.Goals as goal
 
