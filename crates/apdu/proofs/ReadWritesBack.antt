@@ -1,5 +1,6 @@
 -- Every APDU that is read is right for the writer, and is written back as the same bytes. Assumes nothing.
 use Rattle.std.proofs.Common.{◌≡◌, ℕ, ◌+◌, ◌*◌, ◌/◌, ◌%◌, ◌<◌, true, ◌&&◌, eqb, leb, List, [], ◌∷◌, ◌++◌, length, get_or, Some, None, Ok, Err, Option, Result, sym, refl, ap, ◌∙◌, subst, arith}
+use Rattle.std.proofs.lemmas.Option.{cond_some, none-some}
 use Rattle.std.specs.Option.{option_map, ok_or}
 use Rattle.std.proofs.lemmas.Bool.{eqb-true, and_parts, and_from}
 use Rattle.wire.specs.declared.codes.Kind.{Kind}
@@ -21,8 +22,7 @@ use Rattle.apdu.specs.Tags as tag
 use Rattle.apdu.specs.Rows.{wire, shaped}
 use Rattle.apdu.specs.Values.{bind, one, id_in, must}
 use Rattle.apdu.proofs.Formats.{coded_back, one_back, must_back}
-use Rattle.users.proofs.Options.{none_some}
-use Rattle.apdu.proofs.Options.{cond_some, bind_back, mapped_back, err_ok, ok_same, ok_or_back}
+use Rattle.apdu.proofs.Options.{bind_back, mapped_back, err_ok, ok_same, ok_or_back}
 use Rattle.apdu.proofs.Rows.{field_back, bytes_after}
 use Rattle.apdu.proofs.Shapes.{shape_back}
 use Rattle.apdu.proofs.Told.{error_lawful, reject_lawful}
@@ -98,7 +98,7 @@ id_by (x ∷ y ∷ []) rest i b l n =
 id_by (x ∷ y ∷ z ∷ v) rest i b l n = absurd (omega arith)
 
 id_back : (o : Option (List ℕ)) (i : ℕ) (rest : List ℕ) → Bytes (wire tag.id o ++ rest) → must id_in o ≡ Some i → (Some (two i) ≡ o) × ((i < 65536) × (leb 1 i ≡ true))
-id_back None i rest b e = absurd (none_some i e)
+id_back None i rest b e = absurd (none-some i e)
 id_back (Some v) i rest b e =
     let p = cond_some (eqb (length v) 2 && leb 1 (get_or v 0 0 * 256 + get_or v 1 0)) _ i e in
     let c = and_parts (eqb (length v) 2) _ p.0 in

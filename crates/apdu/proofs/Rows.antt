@@ -1,12 +1,11 @@
 -- A row of fields that is written is read, and the reverse. Assumes nothing.
 use Rattle.std.proofs.Common.{◌≡◌, ℕ, ◌+◌, ◌*◌, ◌/◌, ◌%◌, ◌<◌, true, false, eqb, leb, List, [], ◌∷◌, ◌++◌, length, get_or, take, drop, Some, None, Option, sym, refl, ap, ◌∙◌, subst, ⊎_elim, arith}
+use Rattle.std.proofs.lemmas.Option.{cond_some, none-some}
 use Rattle.std.proofs.lemmas.List.{append_assoc, get_or-append-add, take_at, drop_at, length-append, take-append-drop, length-take-le}
 use Rattle.std.proofs.lemmas.Bool.{le-leb, leb-true, cases_Bool, eq-eqb, ne_eqb, eqb-true}
 use Rattle.wire.specs.Fields.{Cut, cut, next_field, value_in, rest_of, value, after, field}
 use Rattle.apdu.specs.Laws.{Bytes}
 use Rattle.apdu.specs.Rows.{values, behind, wire, wires}
-use Rattle.users.proofs.Options.{none_some}
-use Rattle.apdu.proofs.Options.{cond_some}
 
 -- one field that is written is read
 
@@ -40,9 +39,9 @@ cut_back t h l rest f k e =
     subst (λ (g : Cut). field g.tag g.value ++ g.rest ≡ t ∷ h ∷ l ∷ rest) p.1 base
 
 next_back : (bs : List ℕ) (f : Cut) → Bytes bs → next_field bs ≡ Some f → field f.tag f.value ++ f.rest ≡ bs
-next_back [] f b e = absurd (none_some f e)
-next_back (x ∷ []) f b e = absurd (none_some f e)
-next_back (x ∷ y ∷ []) f b e = absurd (none_some f e)
+next_back [] f b e = absurd (none-some f e)
+next_back (x ∷ []) f b e = absurd (none-some f e)
+next_back (x ∷ y ∷ []) f b e = absurd (none-some f e)
 next_back (t ∷ h ∷ l ∷ bs) f b e = let p : leb 3 (length (t ∷ h ∷ l ∷ bs)) ≡ true = le-leb _ _ (omega arith) in cut_back t h l bs f (b 2) (rw p at e)
 
 back_by : (t : ℕ) (bs : List ℕ) → Bytes bs → (o : Option Cut) → next_field bs ≡ o → wire t (value_in t o) ++ rest_of t bs o ≡ bs

@@ -1,5 +1,6 @@
 -- Every shape of the grammar is lawful. Assumes nothing.
 use Rattle.std.proofs.Common.{◌≡◌, ℕ, ◌<◌, Bool, true, false, List, [], ◌∷◌, length, Some, None, Option, sym, refl, ap, ◌∙◌, subst, ⊎_elim, arith}
+use Rattle.std.proofs.lemmas.Option.{same_Some}
 use Rattle.std.specs.Option.{option_map}
 use Rattle.std.proofs.lemmas.List.{length-append}
 use Rattle.users.specs.declared.UserNumber.{UserNumber}
@@ -26,7 +27,6 @@ use Rattle.users.specs.Users.{user_number, user_digits, is_user}
 use Rattle.apdu.specs.Values.{bind, one, exact, unit_of, session_of, must, may, flag, flagged}
 use Rattle.apdu.proofs.Formats.{coded_back, one_back, exact_there, exact_back, unit_there, unit_back, session_there, session_back, must_back, may_there, may_back, flag_there, flag_back, either_back}
 use Rattle.users.proofs.Numbers.{few_digits, user_there, user_back}
-use Rattle.users.proofs.Options.{some_same}
 use Rattle.apdu.proofs.Options.{bind_back, mapped_back}
 use Rattle.apdu.proofs.Rows.{Short, Fills}
 use Rattle.apdu.proofs.Shapes.{Lawful}
@@ -67,7 +67,7 @@ challenge_if_there None z = refl
 challenge_if_there (Some c) z = ap (option_map Some) (exact_there tag.challenge_size c z)
 
 challenge_if_back : (o y : Option (List ℕ)) → may (exact tag.challenge_size) o ≡ Some y → (y ≡ o) × IfAny (OfSize tag.challenge_size) y
-challenge_if_back None y e = let q : None ≡ y = some_same None y e in subst (λ (z : Option (List ℕ)). (z ≡ None) × IfAny (OfSize tag.challenge_size) z) q (refl, tt)
+challenge_if_back None y e = let q : None ≡ y = same_Some None y e in subst (λ (z : Option (List ℕ)). (z ≡ None) × IfAny (OfSize tag.challenge_size) z) q (refl, tt)
 challenge_if_back (Some v) y e =
     let p = mapped_back Some (exact tag.challenge_size v) y e in
     let r = exact_back tag.challenge_size v p.0 p.1.0 in
@@ -79,7 +79,7 @@ auth_back : (a b : Option (List ℕ)) (x : AuthWtmArg) → auth_wtm_arg.says (a 
 auth_back a b x e =
     let p = bind_back (must user_number a) _ x e in
     let q = bind_back (may unit_of b) _ x p.1.1 in
-    let is : record { user = p.0; unit = q.0 } ≡ x = some_same _ x q.1.1 in
+    let is : record { user = p.0; unit = q.0 } ≡ x = same_Some _ x q.1.1 in
     let u = user_in a p.0 p.1.0 in
     let c = may_back unit_of unit_value UnitSized unit_back b q.0 q.1.0 in
     subst (λ (y : AuthWtmArg). (auth_wtm_arg.told y ≡ a ∷ b ∷ []) × ((is_user y.user ≡ true) × AuthSized y)) is ((λ i. u.0 i ∷ c.0 i ∷ []), (u.1, c.1))
@@ -98,7 +98,7 @@ wtat_back a b c x e =
     let p = bind_back (must user_number a) _ x e in
     let q = bind_back (flag b) _ x p.1.1 in
     let r = bind_back (may (exact tag.challenge_size) c) _ x q.1.1 in
-    let is : record { user = p.0; computes = q.0; challenge = r.0 } ≡ x = some_same _ x r.1.1 in
+    let is : record { user = p.0; computes = q.0; challenge = r.0 } ≡ x = same_Some _ x r.1.1 in
     let u = user_in a p.0 p.1.0 in
     let f = flag_back b q.0 q.1.0 in
     let d = challenge_if_back c r.0 r.1.0 in
@@ -119,7 +119,7 @@ wtan_back a b c d x e =
     let q = bind_back (flag b) _ x p.1.1 in
     let r = bind_back (must (exact tag.challenge_size) c) _ x q.1.1 in
     let s = bind_back (must one d) _ x r.1.1 in
-    let is : record { user = p.0; computes = q.0; challenge = r.0; algorithm = s.0 } ≡ x = some_same _ x s.1.1 in
+    let is : record { user = p.0; computes = q.0; challenge = r.0; algorithm = s.0 } ≡ x = same_Some _ x s.1.1 in
     let u = user_in a p.0 p.1.0 in
     let f = flag_back b q.0 q.1.0 in
     let g = must_back (exact tag.challenge_size) (λ v. v) (OfSize tag.challenge_size) (exact_back tag.challenge_size) c r.0 r.1.0 in
@@ -208,7 +208,7 @@ wtat_res_back : (a b c : Option (List ℕ)) (x : WtatParamRes) → wtat_param_re
 wtat_res_back a b c x e =
     let p = bind_back (must one a) _ x e in
     let q = bind_back (wtat_info b c) _ x p.1.1 in
-    let is : record { algorithm = p.0; info = q.0 } ≡ x = some_same _ x q.1.1 in
+    let is : record { algorithm = p.0; info = q.0 } ≡ x = same_Some _ x q.1.1 in
     let n = byte_in a p.0 p.1.0 in
     let i = info_back b c q.0 q.1.0 in
     subst (λ (y : WtatParamRes). (wtat_param_res.told y ≡ a ∷ b ∷ c ∷ []) × ((true ≡ true) × WtatResSized y)) is ((λ t. n t ∷ i.0 t), (refl, i.1))

@@ -1,5 +1,6 @@
 -- Every form is lawful: a value's struct gives the value, and what fields give says what they say. Assumes nothing.
 use Rattle.std.proofs.Common.{◌≡◌, ℕ, Bool, true, false, cond, List, Some, None, Option, sym, refl, ap, ◌∙◌, subst}
+use Rattle.std.proofs.lemmas.Option.{same_Some}
 use Rattle.std.specs.Bool.{then_some}
 use Rattle.apdu.specs.declared.apdus.AuthUnit.{AuthUnit}
 use Rattle.apdu.specs.declared.apdus.WtanParamRes.{WtanParamRes}
@@ -14,7 +15,6 @@ use Rattle.users.specs.declared.UserNumber.{UserNumber}
 use Rattle.wire.specs.Codes.{verdict_number, verdicts, error_number, error_codes}
 use Rattle.apdu.specs.Tags as tag
 use Rattle.apdu.proofs.Formats.{coded_back}
-use Rattle.users.proofs.Options.{some_same}
 use Rattle.apdu_c.specs.declared.fields.Fields.{Fields}
 use Rattle.apdu_c.specs.Flat.{filled}
 use Rattle.apdu_c.specs.Forms.{Form, Forms, has, given_unit, given_session, given_auth_wtm_arg, given_wtat_arg, given_wtan_arg, given_wtat_res, given_wtan_res, auth_wtm_arg, wtat_arg, wtan_arg, verdict, wtat_res, wtan_res, error, problem, arguments, results}
@@ -72,7 +72,7 @@ module _ (f : Fields) where
 
   -- of a form that always gives a value
   given_kept : {B : Type 0} (parts : B → Parts) (g x : B) → Some g ≡ Some x → Same f (parts g) → Same f (parts x)
-  given_kept parts g x e s = subst (λ y. Same f (parts y)) (some_same g x e) s
+  given_kept parts g x e s = subst (λ y. Same f (parts y)) (same_Some g x e) s
 
   auth_same : (unit : Bool) → Same f (asked f.user false None None (then_some unit (given_unit f)))
   auth_same true = same _ refl

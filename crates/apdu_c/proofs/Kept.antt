@@ -1,5 +1,6 @@
 -- The APDU that fields make says what they say. Assumes nothing.
 use Rattle.std.proofs.Common.{◌≡◌, Bool, true, false, eqb, Some, sym, refl, ap, ◌∙◌, subst}
+use Rattle.std.proofs.lemmas.Option.{none-some, same_Some}
 use Rattle.std.proofs.lemmas.Bool.{eqb-true}
 use Rattle.std.specs.Bool.{then_some}
 use Rattle.std.specs.Option.{option_map}
@@ -17,7 +18,6 @@ use Rattle.apdu.specs.Encode.{kind_of_body}
 use Rattle.apdu.specs.Operations.{operation_with}
 use Rattle.apdu.specs.Values.{bind}
 use Rattle.apdu.proofs.Formats.{coded_back}
-use Rattle.users.proofs.Options.{none_some, some_same}
 use Rattle.apdu.proofs.Options.{cond_back, bind_back, mapped_back}
 use Rattle.apdu_c.specs.declared.fields.Fields.{Fields}
 use Rattle.apdu_c.specs.Laws.{parts_in, GivenIsFlat}
@@ -28,8 +28,8 @@ use Rattle.apdu_c.specs.Parts.{present_bits}
 use Rattle.apdu_c.proofs.Forms.{Lawful, AllLawful, Same, arguments_lawful, results_lawful, error_lawful, problem_lawful}
 
 when_back : {A : Type 0} (b : Bool) (x y : A) → then_some b x ≡ Some y → (b ≡ true) × (x ≡ y)
-when_back true x y e = (refl, some_same x y e)
-when_back false x y e = absurd (none_some y e)
+when_back true x y e = (refl, same_Some x y e)
+when_back false x y e = absurd (none-some y e)
 
 module _ (f : Fields) where
   module _ {A T N : Type 0} (s : Forms A T N) (l : AllLawful s) where

@@ -1,5 +1,6 @@
 -- A tape in pieces, one after another. Assumes nothing.
 use Rattle.std.proofs.Common.{◌≡◌, ℕ, zero, suc, ◌+◌, ◌-◌, ◌≤◌, false, cond, leb, List, [], ◌∷◌, ◌++◌, length, take, drop, Some, None, Option, Result, sym, refl, ap, ◌∙◌, ⊎_elim, arith, length-drop, eq-eqb, ne_eqb}
+use Rattle.std.proofs.lemmas.Option.{none-some}
 use borrow.Author.Tests.{eqb-false}
 use Rattle.std.proofs.lemmas.Bool.{cases_Bool, leb-true}
 use Rattle.wire.specs.Fields.{Cut, cut, next_field, is_nothing}
@@ -9,14 +10,11 @@ use Rattle.exchange.specs.declared.service.Service.{Service}
 use Rattle.sheet.specs.Bench.{State, AfterRecord, first_taken, taken}
 use Rattle.sheet.specs.Run.{Piece, whole, piece, pieces, pieces_of, blank, record_after, run_on, run_from, run_pieces, sheet_of}
 
-none_some : {X : Type 0} {x : X} → None ≡ Some x → ⊥
-none_some e = let z : ◌≡◌ {A = ℕ} 0 1 = cc in omega arith
-
 cut_shorter : (t n : ℕ) (bs : List ℕ) (f : Cut) → cut t n bs ≡ Some f → length f.rest ≤ length bs
 cut_shorter t n bs f e =
     ⊎_elim
     (λ y. let is : f.rest ≡ drop n bs = (let s : cut t n bs ≡ Some (record { tag = t; value = take n bs; rest = drop n bs }) = rw y in cc) in omega (arith, ap length is, length-drop n bs))
-    (λ y. absurd (none_some (rw y at e)))
+    (λ y. absurd (none-some _ (rw y at e)))
     (cases_Bool (leb n (length bs)))
 
 -- a record takes at least its head
@@ -24,7 +22,7 @@ pub rest_shorter : (bs : List ℕ) (f : Cut) → next_field bs ≡ Some f → le
 rest_shorter bs f e =
     ⊎_elim
     (λ y. omega (arith, cut_shorter _ _ (drop 3 bs) f (rw y at e), length-drop 3 bs, leb-true 3 (length bs) y))
-    (λ y. absurd (none_some (rw y at e)))
+    (λ y. absurd (none-some _ (rw y at e)))
     (cases_Bool (leb 3 (length bs)))
 
 no_pieces : (n : ℕ) (bs : List ℕ) → length bs ≤ 0 → pieces n bs ≡ []

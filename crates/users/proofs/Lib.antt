@@ -1,4 +1,3 @@
-pub mod Options
 pub mod Powers
 pub mod Digits
 pub mod Numbers

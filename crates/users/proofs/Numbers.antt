@@ -1,12 +1,12 @@
 -- A user number that is written is read, and the reverse. Assumes nothing.
 use Rattle.std.proofs.Common.{◌≡◌, ℕ, zero, suc, ◌+◌, ◌-◌, ◌*◌, ◌/◌, ◌%◌, ◌^◌, ◌<◌, ◌≤◌, true, cond, ◌&&◌, leb, List, [], ◌∷◌, ◌++◌, length, Some, None, Option, sym, refl, ap, ◌∙◌, subst, ⊎_elim, add-zero, pow-suc, zero-add, arith}
+use Rattle.std.proofs.lemmas.Option.{none-some, same_Some}
 use Rattle.std.proofs.lemmas.List.{append_assoc, append-nil, length-append}
 use Rattle.std.proofs.lemmas.Bool.{leb-true, ltb-true, cases_Bool, and_parts}
 use Rattle.std.proofs.lemmas.Bool.Decides.{nat_tests}
 use Rattle.users.specs.declared.UserNumber.{UserNumber}
 use Rattle.users.specs.Users.{is_digit, number, counted, user_number, digits, user_digits, is_user}
 use Rattle.users.proofs.Digits.{lawful}
-use Rattle.users.proofs.Options.{none_some, some_same}
 use Rattle.users.proofs.Powers.{below_next, below_most}
 
 pub length_digits : (k n : ℕ) → length (digits k n) ≡ k
@@ -17,7 +17,7 @@ length_digits (suc k) n = simp length-append (omega (arith, length_digits k (n /
 number_push : (m n c : ℕ) (cs : List ℕ) → is_digit c ≡ true → number m cs ≡ Some n → number m (cs ++ (c ∷ [])) ≡ Some (n * 10 + (c - 48))
 number_push m n c [] d e = let q : m ≡ n = cc in rw (d, q)
 number_push m n c (x ∷ cs) d e =
-    ⊎_elim (λ y. rw y (number_push (m * 10 + (x - 48)) n c cs d (rw y at e))) (λ y. absurd (none_some n (rw y at e))) (cases_Bool (is_digit x))
+    ⊎_elim (λ y. rw y (number_push (m * 10 + (x - 48)) n c cs d (rw y at e))) (λ y. absurd (none-some n (rw y at e))) (cases_Bool (is_digit x))
 
 number_digits : (k n : ℕ) → n < 10 ^ k → number 0 (digits k n) ≡ Some n
 number_digits zero n h = let z : 0 ≡ n = omega arith in ap Some z
@@ -54,7 +54,7 @@ number_back k m n (c ∷ cs) e =
     let b : 48 + (m * 10 + (c - 48)) % 10 ≡ c = omega arith in
     let s : k + suc (length cs) ≡ suc k + length cs = omega arith in
     (λ i. digits (s i) n) ∙ number_back (suc k) (m * 10 + (c - 48)) n cs (rw y at e) ∙ (λ i. (digits k (a i) ++ (b i ∷ [])) ++ cs) ∙ append_assoc (digits k m) (c ∷ []) cs)
-    (λ y. absurd (none_some n (rw y at e)))
+    (λ y. absurd (none-some n (rw y at e)))
     (cases_Bool (is_digit c))
 
 number_small : (j m n : ℕ) (cs : List ℕ) → m < 10 ^ j → number m cs ≡ Some n → n < 10 ^ (j + length cs)
@@ -66,12 +66,12 @@ number_small j m n (c ∷ cs) h e =
     let high : c ≤ 57 = leb-true _ _ p.1 in
     let s : j + 1 + length cs ≡ j + suc (length cs) = omega arith in
     subst (λ (x : ℕ). n < 10 ^ x) s (number_small (j + 1) (m * 10 + (c - 48)) n cs (below_next 10 m (c - 48) j h (omega arith)) (rw y at e)))
-    (λ y. absurd (none_some n (rw y at e)))
+    (λ y. absurd (none-some n (rw y at e)))
     (cases_Bool (is_digit c))
 
 counted_back : (k : ℕ) (u : UserNumber) (o : Option ℕ) → counted k o ≡ Some u → (n : ℕ) × ((o ≡ Some n) × (record { key = k * 1000000000000000 + n } ≡ u))
-counted_back k u None e = absurd (none_some u e)
-counted_back k u (Some n) e = (n, (refl, some_same _ u e))
+counted_back k u None e = absurd (none-some u e)
+counted_back k u (Some n) e = (n, (refl, same_Some _ u e))
 
 pub user_back : (cs : List ℕ) (u : UserNumber) → user_number cs ≡ Some u → (user_digits u ≡ cs) × (is_user u ≡ true)
 user_back cs u e =
@@ -88,5 +88,5 @@ user_back cs u e =
     let r : (length cs * 1000000000000000 + n) % 1000000000000000 ≡ n = omega arith in
     let same : digits (length cs) n ≡ cs = (λ i. digits (sym (zero-add (length cs)) i) n) ∙ number_back 0 0 n cs p.1.0 in
     subst (λ (w : UserNumber). (user_digits w ≡ cs) × (is_user w ≡ true)) p.1.1 ((λ i. digits (q i) (r i)) ∙ same, lawful (length cs) n least most small))
-    (λ y. absurd (none_some u (rw y at e)))
+    (λ y. absurd (none-some u (rw y at e)))
     (cases_Bool (leb 1 (length cs) && leb (length cs) 15))
