@@ -15,7 +15,8 @@ impl Service {
             .any(|slot| slot.is_some_and(|d| d.has_ended(reading)))
     }
 
-    // The first place with no dialogue.
+    // The first place with no dialogue. That a place is one of the table's is said of each that is given: a struct around a
+    // number would be no plainer.
     pub(crate) fn free_place(&self) -> Option<usize>
         ensures value { result ≡ free_place self.now.dialogues }
         ensures within { IfSome result (λ i. i < length self.now.dialogues) }

@@ -67,6 +67,7 @@ impl TryFrom<u8> for Refusal {
 }
 
 impl Refusal {
+    // Beside Display, which writes it: a caller that has nowhere to write gets the text by a call that cannot fail.
     pub fn name(self) -> &'static str
         ensures { result.now ≡ refusal_name self }
     {

@@ -10,7 +10,8 @@ use refusal::Refusal;
 use std::alloc::AllocError;
 use wire::UnknownNumber;
 
-// What a record of a sheet says, by its tag. A conversion of its own, as each code list has one.
+// What a record of a sheet says, by its tag. A conversion of its own, as each code list has one; its tags are written
+// where they are named, and so by `as`.
 #[derive(Clone, Copy, PartialEq, Eq, Debug)]
 pub enum Answer {
     Sent = 0x30,

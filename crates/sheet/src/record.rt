@@ -82,6 +82,7 @@ impl<'a> Record<'a> {
     pub fn read(field: Field<'a>) -> Option<Record<'a>>
         ensures { seen result ≡ read_entry field.entry.tag field.entry.value.now }
     {
+        // The tags of a tape stand here alone: an enum of them would be no plainer, since it would be matched once more.
         match field.tag {
             0x10 => fit_out(field.value),
             0x11 => link(field.value),

@@ -24,6 +24,7 @@ fn number_of(text: &[u8]) -> Option<u64>
     let mut n: u64 = 0;
     for c in text {
         match *c {
+            // `as` and no `u64::from`, with which the proof was tried and did not close.
             b'0'..=b'9' => n = n * 10 + (*c - b'0') as u64,
             _ => return None,
         }
