@@ -9,7 +9,8 @@ that are passed over. Readings rise, and dialogues expire by the clock as they w
 service; about 22 of the 32 places are taken.
 The other mixes repeat one thing: `clocks` with rising readings, `full` initiations that
 find no place, `strangers` initiations to a peer that is no link, `unknown` empty records
-with an unknown tag, `openings` an initiation and the clock that ends it, in turn (once the
+with an unknown tag, `subscribers` records that add one until there are 64 and are refused
+then, `openings` an initiation and the clock that ends it, in turn (once the
 numbers are spent the initiations are refused, and the clocks quiet or back).
 """
 import random
@@ -77,11 +78,15 @@ def unknown(n, rng, peers, stranger):
     return (record(0x77, b"") for _ in range(n))
 
 
+def subscribers(n, rng, peers, stranger):
+    return (record(0x12, bytes([i % 3]) + bytes(16) + b"%d" % (100_000_000 + i)) for i in range(n))
+
+
 def openings(n, rng, peers, stranger):
     return (record(0x26, struct.pack(">Q", i + T1)) if i % 2 else initiation(i, peers[-1]) for i in range(n))
 
 
-MIXES = {mix.__name__: mix for mix in (service, clocks, full, strangers, unknown, openings)}
+MIXES = {mix.__name__: mix for mix in (service, clocks, full, strangers, unknown, subscribers, openings)}
 
 
 def tape(n, mix, rng):

@@ -5,6 +5,7 @@ use std::io::{self, Read, Write};
 
 const PLACES: usize = 32;
 const MOST_LINKS: usize = 32;
+const MOST_SUBSCRIBERS: usize = 64;
 const LAST_NUMBER: u16 = 60_000;
 const LAST_READING: u64 = 1 << 40;
 
@@ -15,7 +16,7 @@ enum Refusal {
     Due = 3,
     Argument = 4,
     Record = 5,
-    LinkTwice = 7,
+    Twice = 7,
     Full = 8,
     NumbersSpent = 9,
     FitOut = 10,
@@ -41,11 +42,20 @@ struct Dialogue {
     ends: u64,
 }
 
+/// A subscriber: its number with the count of its digits, its place, and its key. No call looks at the last two by now.
+#[allow(dead_code)]
+struct Subscriber {
+    user: u64,
+    place: u8,
+    key: [u8; 16],
+}
+
 struct Exchange {
     t1: u64,
     last_reading: u64,
     next_number: u16,
     links: Vec<u8>,
+    subscribers: Vec<Subscriber>,
     dialogues: [Option<Dialogue>; PLACES],
 }
 
@@ -68,6 +78,7 @@ impl Exchange {
             last_reading: 0,
             next_number: 1,
             links: Vec::with_capacity(MOST_LINKS),
+            subscribers: Vec::with_capacity(MOST_SUBSCRIBERS),
             dialogues: [const { None }; PLACES],
         })
     }
@@ -76,6 +87,10 @@ impl Exchange {
     fn step<'a>(&mut self, tag: u8, value: &'a [u8]) -> Answer<'a> {
         match (tag, value) {
             (0x11, &[peer]) => self.link(peer),
+            (0x12, &[place, ref rest @ ..]) if rest.len() >= 16 => {
+                let (key, digits) = rest.split_first_chunk::<16>().unwrap();
+                self.subscribe(place, *key, digits)
+            }
             (0x20, value) if value.len() >= 9 => {
                 self.initiate(number(&value[..8]), value[8], &value[9..])
             }
@@ -89,12 +104,28 @@ impl Exchange {
             return Err(Refusal::Argument);
         }
         if self.links.contains(&peer) {
-            return Err(Refusal::LinkTwice);
+            return Err(Refusal::Twice);
         }
         if self.links.len() == MOST_LINKS {
             return Err(Refusal::Full);
         }
         self.links.push(peer);
+        Ok(Outcome::Done)
+    }
+
+    fn subscribe(&mut self, place: u8, key: [u8; 16], digits: &[u8]) -> Answer<'static> {
+        if place > 2 || !is_user_number(digits) {
+            return Err(Refusal::Argument);
+        }
+        let value = digits.iter().fold(0, |n, c| n * 10 + u64::from(c - b'0'));
+        let user = digits.len() as u64 * 1_000_000_000_000_000 + value;
+        if self.subscribers.iter().any(|there| there.user == user) {
+            return Err(Refusal::Twice);
+        }
+        if self.subscribers.len() == MOST_SUBSCRIBERS {
+            return Err(Refusal::Full);
+        }
+        self.subscribers.push(Subscriber { user, place, key });
         Ok(Outcome::Done)
     }
 

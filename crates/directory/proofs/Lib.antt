@@ -1,1 +1,3 @@
+mod Changing
+mod First
 mod Removing

@@ -1,6 +1,6 @@
--- Lists of adding and removing, and what is to hold after each. What one removal leaves (`taken_out`) is promised by
--- contracts; `Lasts` is not yet: it is stated here, and neither proved nor named by a contract.
-use Rattle.std.specs.Prelude.{◌≡◌, ℕ, ◌<◌, ◌≤◌, true, false, cond, ◌⊎◌, List, [], ◌∷◌, length, is_ok, Ok, ◌≢◌, nat_eq, slice_index_or}
+-- Lists of adding and removing, and what holds after each.
+use Rattle.std.specs.Prelude.{◌≡◌, ℕ, ◌≤◌, true, false, cond, ◌⊎◌, List, [], ◌∷◌, length, is_ok, Ok, ◌≢◌, nat_eq, slice_index_or}
+use Rattle.std.specs.List.{AllPairs}
 use Rattle.directory.specs.declared.directory.Directory.{Directory}
 use Rattle.directory.specs.Contents.{contents, places, stored, without}
 use Rattle.directory.specs.Found.{first_at}
@@ -18,7 +18,7 @@ module _ {R : Type 0} (key : R → ℕ) where
 
   -- no two places hold records with one key
   abbrev pub NoKeyTwice : List R → Type 0
-  NoKeyTwice xs = (i j : ℕ) (x : R) → i < j → j < length xs → key (slice_index_or xs i x) ≢ key (slice_index_or xs j x)
+  NoKeyTwice xs = AllPairs (λ x y. key x ≢ key y) xs
 
   module _ (blank : R) where
     -- the directory after removing the record with a key, done or refused
@@ -33,17 +33,23 @@ module _ {R : Type 0} (key : R → ℕ) where
     after d [] = d
     after d (c ∷ cs) = after (changed d c) cs
 
-    -- what is to hold of a directory d over memory that held the list lent
-    pub record Lasting (lent : List R) (d : Directory R) : Type 0 where
-      pub unique : NoKeyTwice (contents d)
+    -- what is to hold of the free places of a directory over memory that held the list lent
+    pub record Freeing (lent : List R) (d : Directory R) : Type 0 where
+      -- no place is lost
+      pub size : places d ≡ length lent
       -- a free place holds the blank record, or what it held when it was lent
       pub erased : (k : ℕ) (x : R) → d.count ≤ k → (slice_index_or d.records.now k x ≡ blank) ⊎ (slice_index_or d.records.now k x ≡ slice_index_or lent k x)
+      -- the place that removing frees holds the blank record
+      pub cleared : (q : ℕ) (x : R) → known nat_eq key (contents d) q ≡ true → slice_index_or (taken_out d q).records.now (taken_out d q).count x ≡ blank
       -- once it is removed, a key is not there
       pub gone : (q : ℕ) → known nat_eq key (contents (taken_out d q)) q ≡ false
       -- and the place that it frees is used again
       pub reused : (q : ℕ) (x : R) → known nat_eq key (contents d) q ≡ true → known nat_eq key (contents (taken_out d q)) (key x) ≡ false → add_answer nat_eq key (places d) (contents (taken_out d q)) x ≡ Ok tt
-      pub size : places d ≡ length lent
 
-    -- that it holds after every list of adding and removing: not proved
-    abbrev pub Lasts : Directory R → Type 0
-    Lasts d = (cs : List (Change R)) → Lasting d.records.now (after d cs)
+  -- after every list of adding and removing no two records have one key, whatever the blank record
+  abbrev pub NeverTwoOfAKey : Directory R → Type 0
+  NeverTwoOfAKey d = (blank : R) (cs : List (Change R)) → NoKeyTwice (contents (after blank d cs))
+
+  -- after every list of them a freed place is erased, and used again
+  abbrev pub FreedIsErasedAndReused : Directory R → Type 0
+  FreedIsErasedAndReused d = (blank : R) (cs : List (Change R)) → Freeing blank d.records.now (after blank d cs)

@@ -1,7 +1,7 @@
 -- What adding and removing a record answer and leave, under a test of keys.
-use Rattle.std.specs.Prelude.{ℕ, Bool, cond, List, [], ◌∷◌, ◌++◌, length, is_some, Some, None, is_ok, Ok, Err, Option, Result, nat_lt}
+use Rattle.std.specs.Prelude.{ℕ, Bool, cond, List, [], ◌∷◌, ◌++◌, length, is_some, is_ok, Ok, Err, Result, nat_lt}
 use Rattle.refusal.specs.declared.Refusal.{Refusal}
-use Rattle.refusal.specs.declared.Refusal.TheVariants.{Twice, Full}
+use Rattle.refusal.specs.declared.Refusal.TheVariants.{Stray, Twice, Full}
 use Rattle.directory.specs.Found.{first_at}
 
 module _ {R K : Type 0} (same : K → K → Bool) (key : R → K) where
@@ -18,8 +18,8 @@ module _ {R K : Type 0} (same : K → K → Bool) (key : R → K) where
   add_list n xs x = cond (is_ok (add_answer n xs x)) (xs ++ x ∷ []) xs
 
   -- the answer to removing the record with a key from xs
-  abbrev pub remove_answer : List R → K → Option (Unit {0})
-  remove_answer xs q = cond (known xs q) (Some tt) None
+  abbrev pub remove_answer : List R → K → Result (Unit {0}) Refusal
+  remove_answer xs q = cond (known xs q) (Ok tt) (Err Stray)
 
   -- the list left: without the first record that has the key
   abbrev pub remove_list : List R → K → List R

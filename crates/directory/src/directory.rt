@@ -1,9 +1,9 @@
-ghost use Rattle.std.specs.Prelude.{◌≡◌, ◌<◌, ◌≤◌, [], ◌∷◌, ◌++◌, length, take, drop, IfSome, is_ok, if◌then◌else◌, nat_eq};
+ghost use Rattle.std.specs.Prelude.{◌≡◌, ◌<◌, ◌≤◌, [], ◌∷◌, ◌++◌, length, take, drop, IfSome, nat_eq};
 ghost use Rattle.std.specs.List.{remove};
-ghost use Rattle.directory.specs.Contents.{contents, places, stored};
+ghost use Rattle.directory.specs.Contents.{contents, places, stored, vacated};
 ghost use Rattle.directory.specs.Found.{first_at, first_with};
 ghost use Rattle.directory.specs.Steps.{known, add_answer, add_list, remove_answer, remove_list};
-ghost use Rattle.directory.specs.Changes.{taken_out};
+ghost use Rattle.directory.specs.Changes.{added, taken_out, NeverTwoOfAKey, FreedIsErasedAndReused};
 
 use crate::keyed::{Blank, Keyed, lookup};
 use refusal::Refusal;
@@ -18,15 +18,6 @@ pub struct Directory<'a, R> {
 }
 
 impl<'a, R> Directory<'a, R> {
-    // An empty directory with the slice's places.
-    pub fn new(records: &'a mut [R]) -> Directory<'a, R>
-        ensures list { contents result ≡ [] }
-        ensures size { places result ≡ length records.old }
-        ensures whole { result ≡ record { records = records.entry; count = 0 } }
-    {
-        Directory { records, count: 0 }
-    }
-
     // The records in use, in the order in which they were added.
     pub fn used(&self) -> &[R]
         ensures { result.now ≡ contents self.now }
@@ -36,6 +27,17 @@ impl<'a, R> Directory<'a, R> {
 }
 
 impl<'a, R: Keyed> Directory<'a, R> {
+    // An empty directory with the slice's places.
+    pub fn new(records: &'a mut [R]) -> Directory<'a, R>
+        ensures list { contents result ≡ [] }
+        ensures size { places result ≡ length records.old }
+        ensures whole { result ≡ record { records = records.entry; count = 0 } }
+        ensures apart { NeverTwoOfAKey R.keyed result }
+        ensures freed { FreedIsErasedAndReused R.keyed result }
+    {
+        Directory { records, count: 0 }
+    }
+
     // The place of the first record with the key.
     pub fn find(&self, key: u64) -> Option<usize>
         ensures value { result ≡ first_at nat_eq R.keyed (contents self.now) key }
@@ -56,15 +58,18 @@ impl<'a, R: Keyed + Copy> Directory<'a, R> {
     pub fn get(&self, key: u64) -> Option<R>
         ensures { result ≡ first_with nat_eq R.keyed (contents self.now) key }
     {
-        self.used().iter().find(|item| item.key() == key).copied()
+        let place = self.find(key)?;
+        Some(self.used()[place])
     }
+}
 
+impl<'a, R: Keyed + Drop> Directory<'a, R> {
     // Adds a record at the end. It refuses a key that is there, then a directory that is full, and a refusal changes nothing.
     pub fn add(&mut self, item: R) -> Result<(), Refusal>
         ensures answer { result ≡ add_answer nat_eq R.keyed (places self.old) (contents self.old) item }
         ensures list { contents self.new ≡ add_list nat_eq R.keyed (places self.old) (contents self.old) item }
         ensures size { places self.new ≡ places self.old }
-        ensures whole { self.new ≡ (if is_ok result then stored self.old item else self.old) }
+        ensures whole { self.new ≡ added R.keyed self.old item }
     {
         self.may_add(&item)?;
         self.store(item);
@@ -95,7 +100,7 @@ impl<'a, R: Keyed + Copy> Directory<'a, R> {
 }
 
 // Takes the record at a place out of the first ones, and moves those behind it one place down; a blank one goes where the last one was.
-fn take_out<R: Copy>(places: &mut [R], at: usize, count: usize, blank: R)
+fn take_out<R: Drop>(places: &mut [R], at: usize, count: usize, blank: R)
     requires before { at < count }
     requires within { count ≤ length places.old }
     ensures { places.new ≡ remove (take count places.old) at ++ blank ∷ drop count places.old }
@@ -105,19 +110,26 @@ fn take_out<R: Copy>(places: &mut [R], at: usize, count: usize, blank: R)
     used[at..].rotate_left(1);
 }
 
-impl<'a, R: Keyed + Blank + Copy> Directory<'a, R> {
-    // Removes the first record with the key, and frees its place. None where no record has the key, and then nothing changes:
-    // a rule of the project, since the list of refusals has none for it while no call removes a record.
-    pub fn remove(&mut self, key: u64) -> Option<()>
+impl<'a, R: Keyed + Blank + Drop> Directory<'a, R> {
+    // Removes the first record with the key, and frees its place. It refuses a key that no record has, and then nothing changes.
+    pub fn remove(&mut self, key: u64) -> Result<(), Refusal>
         ensures answer { result ≡ remove_answer nat_eq R.keyed (contents self.old) key }
         ensures list { contents self.new ≡ remove_list nat_eq R.keyed (contents self.old) key }
         ensures size { places self.new ≡ places self.old }
         ensures whole { self.new ≡ taken_out R.keyed R.blanked self.old key }
     {
-        let place = self.find(key)?;
+        let place = self.find(key).ok_or(Refusal::Stray)?;
+        self.vacate(place);
+        Ok(())
+    }
+
+    // Takes the record at a place out, and frees the place.
+    fn vacate(&mut self, place: usize)
+        requires { place < length (contents self.old) }
+        ensures { self.new ≡ vacated R.blanked self.old place }
+    {
         let count = self.used().len();
         take_out(self.records, place, count, R::blank());
         self.count = count - 1;
-        Some(())
     }
 }

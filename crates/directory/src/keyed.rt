@@ -9,7 +9,7 @@ pub trait Keyed {
         ensures { result ≡ keyed self.now };
 }
 
-// A record type with a value that tells nothing: a place from which a record was removed holds it. No Default: of that
+// A record type with a value that tells nothing: the place that removing frees holds it. No Default: of that
 // only a relation is known, and definitions have to name the one value.
 pub trait Blank {
     ghost blanked: { Self };

@@ -15,12 +15,12 @@ use Rattle.exchange.specs.declared.dialogue.State.TheVariants.{I}
 use Rattle.exchange.specs.declared.dialogue.Event.TheVariants.{Expiry}
 use Rattle.exchange.specs.declared.dialogue.Step.{Step}
 use Rattle.exchange.specs.declared.dialogue.Step.TheVariants.{Closes}
-use Rattle.exchange.specs.declared.link.Link.{Link}
+use Rattle.entries.specs.declared.link.Link.{Link}
 use Rattle.exchange.specs.declared.outcome.Done.{Done}
 use Rattle.exchange.specs.declared.outcome.Done.TheVariants.{Quiet, Sent, Reported}
 use Rattle.exchange.specs.declared.service.Service.{Service}
 use Rattle.exchange.specs.Dialogue.{stepped}
-use Rattle.exchange.specs.Link.{is_linked}
+use Rattle.entries.specs.Link.{is_linked}
 use Rattle.exchange.specs.Service.{by, timely, ready, room, opened, read_at, closed}
 use Rattle.exchange.specs.Table.{first_ended}
 

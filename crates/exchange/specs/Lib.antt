@@ -1,7 +1,6 @@
 pub mod FitOut
 pub mod Dialogue
 pub mod Table
-pub mod Link
 pub mod Service
 pub mod Entry
 pub mod Calls

@@ -9,10 +9,10 @@ ghost use Rattle.exchange.specs.Laws.{Earliest};
 
 use crate::dialogue::{Event, OwnNumber, State, Step};
 use crate::in_service::Exchange;
-use crate::link::{Link, is_link};
 use crate::outcome::Done;
 use apdu::{Apdu, AuthWtmArg, Body, Invoke};
 use directory::Directory;
+use entries::{Link, is_link};
 use refusal::Refusal;
 use users::UserNumber;
 

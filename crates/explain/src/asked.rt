@@ -1,8 +1,10 @@
 // What a record of a tape asks, in words.
 use crate::digits::Digits;
+use entries::KeyPlace;
 use exchange::FitOut;
 use sheet::Record;
 use std::fmt;
+use users::UserNumber;
 use wire::Field;
 
 #[derive(Clone, Copy)]
@@ -10,6 +12,15 @@ pub struct Asked<'a>(pub Field<'a>);
 
 #[derive(Clone, Copy)]
 struct FittedOut(FitOut);
+
+// Where a subscriber's parameters are, by the number of the place. A byte that is no place is not shown: in a record that
+// was put together wrongly it may be part of the key.
+#[derive(Clone, Copy)]
+struct Placed(u8);
+
+// The digits of a subscriber. For the same reason bytes that are no user number are only counted.
+#[derive(Clone, Copy)]
+struct Subscribed<'a>(&'a [u8]);
 
 impl fmt::Display for FittedOut {
     fn fmt<W: fmt::Write>(&self, f: &mut fmt::Formatter<W>) -> fmt::Result {
@@ -33,11 +44,37 @@ impl fmt::Display for FittedOut {
     }
 }
 
+impl fmt::Display for Placed {
+    fn fmt<W: fmt::Write>(&self, f: &mut fmt::Formatter<W>) -> fmt::Result {
+        match KeyPlace::try_from(self.0) {
+            Ok(KeyPlace::NoParameters) => write!(f, "no parameters"),
+            Ok(KeyPlace::Here) => write!(f, "key here"),
+            Ok(KeyPlace::Server) => write!(f, "key at the server"),
+            Err(_) => write!(f, "at a place above 2"),
+        }
+    }
+}
+
+impl fmt::Display for Subscribed<'_> {
+    fn fmt<W: fmt::Write>(&self, f: &mut fmt::Formatter<W>) -> fmt::Result {
+        let text = self.0;
+        if text.is_empty() || UserNumber::from_digits(text).is_some() {
+            return write!(f, "{}", Digits { text });
+        }
+        let size = text.len();
+        write!(f, "of {size} bytes that are no user number")
+    }
+}
+
 impl fmt::Display for Asked<'_> {
     fn fmt<W: fmt::Write>(&self, f: &mut fmt::Formatter<W>) -> fmt::Result {
         match Record::read(self.0) {
             Some(Record::FitOut(fit)) => write!(f, "{}", FittedOut(fit)),
             Some(Record::Link { peer }) => write!(f, "link to peer {peer}"),
+            Some(Record::Subscriber { place, digits, .. }) => {
+                let user = Subscribed(digits);
+                write!(f, "subscriber {user}, {}", Placed(place))
+            }
             Some(
                 Record::PlainInitiation {
                     reading,

@@ -17,10 +17,13 @@ pub enum Refusal {
     ClockBack = 2,
     // The call is no clock call, and a timer ends at or before its reading.
     TimerDue = 3,
-    // A bad user number, a peer that is not among the links, or peer 0 for a link.
+    // A bad user number, an initiation's peer that is not among the links, a place above 2 for a subscriber that is added,
+    // or peer 0 for a link that is.
     Misdialled = 4,
     // A tape record that is cut, unknown, of a wrong size, or a second fit-out; fields to write that are no APDU.
     Garbled = 5,
+    // No record of the directory has the key that is to be removed.
+    Stray = 6,
     // The directory has a record with this key.
     Twice = 7,
     // No place is left for a dialogue or a record.
@@ -57,6 +60,7 @@ impl TryFrom<u8> for Refusal {
             3 => Ok(Refusal::TimerDue),
             4 => Ok(Refusal::Misdialled),
             5 => Ok(Refusal::Garbled),
+            6 => Ok(Refusal::Stray),
             7 => Ok(Refusal::Twice),
             8 => Ok(Refusal::Full),
             9 => Ok(Refusal::Spent),
@@ -77,6 +81,7 @@ impl Refusal {
             Refusal::TimerDue => "timer due",
             Refusal::Misdialled => "misdialled",
             Refusal::Garbled => "garbled",
+            Refusal::Stray => "stray",
             Refusal::Twice => "twice",
             Refusal::Full => "full",
             Refusal::Spent => "spent",

@@ -15,7 +15,7 @@ use Rattle.exchange.specs.Service.{by}
 use Rattle.sheet.specs.Records.{read_entry}
 use Rattle.sheet.specs.Bench.{State, AfterRecord, first_taken, taken}
 use Rattle.sheet.specs.Lines.{report_bytes, sheet_record}
-use Rattle.sheet.specs.Run.{Piece, whole, cut_off, piece, pieces, pieces_of, blank, run_on, run_from, run_pieces}
+use Rattle.sheet.specs.Run.{Piece, whole, cut_off, piece, pieces, pieces_of, blank, run_on, starting, run_from, run_pieces}
 use Rattle.sheet.specs.Laws.{OfSheet, number_taken, OneRecordEach}
 use Rattle.sheet.proofs.Pieces.{pieces_whole}
 
@@ -86,7 +86,7 @@ row_on (suc n) b bs =
 -- the first record decides the run
 row_from : (tag : ℕ) (value : List ℕ) (n : ℕ) (bs : List ℕ) (r : Result Service Refusal) → first_taken (read_entry tag value) ≡ r → Row (whole tag value ∷ pieces n bs) run_pieces (by r (λ _. suc (length (pieces n bs))) (λ _. 1))
 row_from tag value n bs (Ok s) e =
-    let b : State = record { service = s; links = []; places = 32 } in
+    let b : State = starting s in
     more (whole tag value) (pieces n bs) run_pieces (run_on b) _ _ (one (Ok Quiet) blank) refl (λ qs. ap (λ (r : Result Service Refusal). run_from r qs) e) (row_on n b bs)
 row_from tag value n bs (Err m) e = more (whole tag value) (pieces n bs) run_pieces (λ _. []) 0 _ (one (Err m) blank) refl (λ qs. ap (λ (r : Result Service Refusal). run_from r qs) e) (ended (pieces n bs))
 

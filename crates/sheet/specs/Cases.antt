@@ -1,5 +1,5 @@
 -- Worked cases: a tape, and the sheet that it gives.
-use Rattle.std.specs.Prelude.{◌≡◌, ℕ, List, [], ◌∷◌, ◌++◌, map}
+use Rattle.std.specs.Prelude.{◌≡◌, ℕ, List, [], ◌∷◌, ◌++◌, map, replicate}
 use Rattle.wire.specs.Fields.{field, two}
 use Rattle.sheet.specs.Run.{sheet_of}
 
@@ -21,6 +21,10 @@ fit_out_with t1 = field 0x10 (time t1 ++ time 15000 ++ time 15000 ++ time 15000 
 -- in service, with a link to peer 5
 abbrev pub linked_to_five : List ℕ
 linked_to_five = fit_out_with 15000 ++ field 0x11 (5 ∷ [])
+
+-- a subscriber with a key of sixteen bytes 7
+abbrev pub subscribes : ℕ → List ℕ → List ℕ
+subscribes place digits = field 0x12 (place ∷ replicate 16 7 ++ digits)
 
 abbrev pub initiates : ℕ → List ℕ → List ℕ
 initiates n digits = field 0x20 (reading n ++ 5 ∷ digits)
@@ -74,6 +78,18 @@ cases =
     ∷ record {
       tape = linked_to_five ++ initiates 1000 five ++ initiates 15999 five ++ initiates 16000 five;
       sheet = done ++ done ++ sent 1 five ++ sent 2 five ++ refusal 3;
+    }
+    -- subscribers with each place are taken, users 0 and 00 both; place 3 and no digits are refused with 4, a user that is there with 7
+    ∷ record {
+      tape = fit_out_with 15000 ++ subscribes 0 (0x30 ∷ []) ++ subscribes 1 (0x30 ∷ 0x30 ∷ []) ++ subscribes 2 five ++ subscribes 3 (0x31 ∷ []) ++ subscribes 1 [] ++ subscribes 1 (0x30 ∷ []);
+      sheet = done ++ done ++ done ++ done ++ refusal 4 ++ refusal 4 ++ refusal 7;
+    }
+    -- a subscriber is no fit-out
+    ∷ record { tape = subscribes 1 five; sheet = refusal 10 }
+    -- 4 goes before 7, and a key of fifteen bytes is a wrong size
+    ∷ record {
+      tape = fit_out_with 15000 ++ subscribes 2 five ++ subscribes 3 five ++ field 0x12 (0 ∷ replicate 15 7);
+      sheet = done ++ done ++ refusal 4 ++ refusal 5;
     }
     ∷ []
 

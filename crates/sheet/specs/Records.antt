@@ -8,6 +8,8 @@ use Rattle.sheet.specs.declared.record.Record.TheVariants as record_of
 pub data Entry : Type 0 where
   fit_out : FitOut → Entry
   link : ℕ → Entry
+  -- place, key, digits
+  subscriber : ℕ → List ℕ → List ℕ → Entry
   -- reading, peer, digits
   initiation : ℕ → ℕ → List ℕ → Entry
   clock : ℕ → Entry
@@ -16,6 +18,7 @@ pub data Entry : Type 0 where
 abbrev pub view : Record → Entry
 view (record_of.FitOut f) = fit_out f
 view (record_of.Link peer) = link peer
+view (record_of.Subscriber place key digits) = subscriber place key.now digits.now
 view (record_of.PlainInitiation reading peer digits) = initiation reading peer digits.now
 view (record_of.Clock reading) = clock reading
 
@@ -53,6 +56,10 @@ read_fit_out v =
 abbrev pub read_link : List ℕ → Entry
 read_link v = cond (length v == 1) (link (slice_index v 0)) unreadable
 
+-- a place, a key of 16 bytes, and digits to the end
+abbrev pub read_subscriber : List ℕ → Entry
+read_subscriber v = cond (nat_lt (length v) 17) unreadable (subscriber (slice_index v 0) (take 16 (drop 1 v)) (drop 17 v))
+
 -- a reading of eight bytes, a peer, and digits to the end
 abbrev pub read_initiation : List ℕ → Entry
 read_initiation v = cond (nat_lt (length v) 9) unreadable (initiation (big_endian 0 (take 8 v)) (slice_index v 8) (drop 9 v))
@@ -64,4 +71,7 @@ read_clock v = cond (length v == 8) (clock (big_endian 0 v)) unreadable
 abbrev pub read_entry : ℕ → List ℕ → Entry
 read_entry tag v =
     cond (tag == 0x10) (read_fit_out v)
-    (cond (tag == 0x11) (read_link v) (cond (tag == 0x20) (read_initiation v) (cond (tag == 0x26) (read_clock v) unreadable)))
+    (cond (tag == 0x11) (read_link v)
+    (cond (tag == 0x12) (read_subscriber v)
+    (cond (tag == 0x20) (read_initiation v)
+    (cond (tag == 0x26) (read_clock v) unreadable))))

@@ -44,9 +44,13 @@ run_on b (whole tag value ∷ ps) =
     let a : AfterRecord = taken b (read_entry tag value) blank in
     record_after a ++ run_on a.bench ps
 
--- so does a first record that is no lawful fit-out; there are places for 32 links
+-- in service, with places for 32 links and 64 subscribers, all free
+abbrev pub starting : Service → State
+starting s = record { service = s; links = record { entries = []; places = 32 }; subscribers = record { entries = []; places = 64 } }
+
+-- a first record that is no lawful fit-out ends the run too
 abbrev pub run_from : Result Service Refusal → List Piece → List ℕ
-run_from (Ok s) ps = sheet_record (Ok Quiet) blank ++ run_on (record { service = s; links = []; places = 32 }) ps
+run_from (Ok s) ps = sheet_record (Ok Quiet) blank ++ run_on (starting s) ps
 run_from (Err n) ps = refusal_record n
 
 abbrev pub run_pieces : List Piece → List ℕ

@@ -1,4 +1,4 @@
-// An exchange in service with its links, as the records of a tape reach it.
+// An exchange in service with its links and subscribers, as the records of a tape reach it.
 ghost use Rattle.std.specs.Prelude.{◌≡◌, [], length};
 ghost use Rattle.exchange.specs.Entry.{service_of};
 ghost use Rattle.sheet.specs.Records.{read_entry};
@@ -6,7 +6,8 @@ ghost use Rattle.sheet.specs.Bench.{state_of, first_taken, taken};
 
 use crate::record::Record;
 use directory::Directory;
-use exchange::{Done, Exchange, Link, add_link};
+use entries::{Link, Subscriber, add_link, add_subscriber};
+use exchange::{Done, Exchange};
 use refusal::Refusal;
 use wire::Field;
 
@@ -14,6 +15,7 @@ use wire::Field;
 pub(crate) struct Bench<'a> {
     exchange: Exchange,
     links: Directory<'a, Link>,
+    subscribers: Directory<'a, Subscriber>,
 }
 
 // Enters service with the first record, which has to be a lawful fit-out.
@@ -27,13 +29,18 @@ pub(crate) fn enter_service(first: Field<'_>) -> Result<Exchange, Refusal>
 }
 
 impl<'a> Bench<'a> {
-    // No link yet; links will stand in the slice.
-    pub(crate) fn new(exchange: Exchange, places: &'a mut [Link]) -> Bench<'a>
-        ensures { state_of result ≡ record { service = exchange.service; links = []; places = length places.old } }
+    // No link and no subscriber yet; they will stand in the slices.
+    pub(crate) fn new(
+        exchange: Exchange,
+        links: &'a mut [Link],
+        subscribers: &'a mut [Subscriber],
+    ) -> Bench<'a>
+        ensures { state_of result ≡ record { service = exchange.service; links = record { entries = []; places = length links.old }; subscribers = record { entries = []; places = length subscribers.old } } }
     {
         Bench {
             exchange,
-            links: Directory::new(places),
+            links: Directory::new(links),
+            subscribers: Directory::new(subscribers),
         }
     }
 
@@ -45,6 +52,10 @@ impl<'a> Bench<'a> {
             Record::FitOut(_) => Err(Refusal::Garbled),
             Record::Link { peer } => {
                 add_link(&mut self.links, peer)?;
+                Ok(Done::Quiet)
+            }
+            Record::Subscriber { place, key, digits } => {
+                add_subscriber(&mut self.subscribers, digits, place, *key)?;
                 Ok(Done::Quiet)
             }
             Record::PlainInitiation {

@@ -1,8 +1,9 @@
 // The records of a tape.
 ghost use Rattle.std.specs.Prelude.{◌≡◌};
-ghost use Rattle.sheet.specs.Records.{seen, read_fit_out, read_link, read_initiation, read_clock, read_entry};
+ghost use Rattle.sheet.specs.Records.{seen, read_fit_out, read_link, read_subscriber, read_initiation, read_clock, read_entry};
 
 use crate::numbers::{eight, four};
+use entries::UserKey;
 use exchange::FitOut;
 use wire::Field;
 
@@ -11,6 +12,11 @@ pub enum Record<'a> {
     FitOut(FitOut),
     Link {
         peer: u8,
+    },
+    Subscriber {
+        place: u8,
+        key: &'a UserKey,
+        digits: &'a [u8],
     },
     PlainInitiation {
         reading: u64,
@@ -55,6 +61,18 @@ fn link(value: &[u8]) -> Option<Record<'_>>
     }
 }
 
+fn subscriber(value: &[u8]) -> Option<Record<'_>>
+    ensures { seen result ≡ read_subscriber value.now }
+{
+    let (place, rest) = value.split_first()?;
+    let (key, digits) = rest.split_first_chunk::<16>()?;
+    Some(Record::Subscriber {
+        place: *place,
+        key,
+        digits,
+    })
+}
+
 fn plain_initiation(value: &[u8]) -> Option<Record<'_>>
     ensures { seen result ≡ read_initiation value.now }
 {
@@ -86,6 +104,7 @@ impl<'a> Record<'a> {
         match field.tag {
             0x10 => fit_out(field.value),
             0x11 => link(field.value),
+            0x12 => subscriber(field.value),
             0x20 => plain_initiation(field.value),
             0x26 => clock(field.value),
             _ => None,

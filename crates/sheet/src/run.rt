@@ -10,7 +10,9 @@ ghost use Rattle.sheet.specs.Run.{pieces_of, run_on, run_from, sheet_of};
 
 use crate::bench::{Bench, enter_service};
 use crate::lines::add_record;
-use exchange::{Done, Link};
+use directory::Blank;
+use entries::{Link, Subscriber};
+use exchange::Done;
 use refusal::Refusal;
 use std::alloc::AllocError;
 use wire::Reader;
@@ -57,8 +59,9 @@ fn run_all(tape: &[u8], sheet: &mut Vec<u8>) -> Result<(), AllocError>
     match enter_service(first) {
         Err(refusal) => add_record(&Err(refusal), &buffer, sheet),
         Ok(exchange) => {
-            let mut places = [Link { peer: 0 }; 32];
-            let mut bench = Bench::new(exchange, &mut places);
+            let mut links = [Link::blank(); 32];
+            let mut subscribers = [Subscriber::blank(); 64];
+            let mut bench = Bench::new(exchange, &mut links, &mut subscribers);
             add_record(&Ok(Done::Quiet), &buffer, sheet)?;
             run_on(&mut bench, &mut reader, sheet)
         }

@@ -1,12 +1,16 @@
-use Rattle.std.proofs.Common.{◌≡◌, eqb, rules}
-use Rattle.std.proofs.lemmas.Iterator.{YieldsList-from_slice}
-use Rattle.std.proofs.lemmas.Iterator.Search.{find_from_yields_List}
-use Rattle.std.specs.Option.{option_map}
+use Rattle.std.proofs.Common.{rules, ◌≡◌, List, Some, sym, ap, ◌∙◌, nat_eq, slice_index_or}
 use Rattle.directory.specs.Contents.{contents}
-use Rattle.directory.specs.Found.{first_with}
+use Rattle.directory.proofs.First.{first_with_some, first_with_none}
 use Rattle.directory.proofs.directory.Directory.get.Goals as goal
+
+pub returns-in_err-place : goal.returns-in_err-place
+returns-in_err-place g c =
+    let e = first_with_none nat_eq g.R.Keyed.keyed (contents c.args.self.now) c.args.key (sym c.find.ensures.value ∙ c.in_err-place.was) in
+    search (rules, e)
 
 pub returns : goal.returns
 returns g c =
-    let e : option_map (λ r. r.now) c.find.result ≡ first_with eqb g.R.Keyed.keyed (contents c.args.self.now) c.args.key = find_from_yields_List _ _ _ c.find.result c.find.ensures.ran (YieldsList-from_slice (contents c.args.self.now) (cc)) (λ x b q k. search rules) in
-    search (rules, e)
+    let d = c.index-used-place.result in
+    let i = c.in_ok-place.place in
+    let read : d ≡ slice_index_or (contents c.args.self.now) i d = c.index-used-place.is ∙ ap (λ (xs : List g.row.R.Denot). slice_index_or xs i d) c.used.ensures in
+    ap Some read ∙ sym (first_with_some nat_eq g.R.Keyed.keyed (contents c.args.self.now) c.args.key i d (sym c.find.ensures.value ∙ c.in_ok-place.was))

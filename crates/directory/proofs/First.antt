@@ -1,0 +1,19 @@
+-- The first record with a key stands at the place that is found for the key. Assumes nothing.
+use Rattle.std.proofs.Common.{◌≡◌, ℕ, Bool, List, length, Some, None, ◌≤◌, slice_get, slice_index_or, ap, ◌∙◌, arith}
+use Rattle.std.proofs.lemmas.Bool.Decides.{nat_tests}
+use Rattle.std.proofs.lemmas.List.Folds.{find_at}
+use Rattle.std.proofs.lemmas.List.Quantifiers.{position-Some}
+use Rattle.std.proofs.lemmas.Option.{slice_get-get_or, slice_get_past}
+use Rattle.std.specs.List.{position_or_len}
+use Rattle.directory.specs.Found.{first_at, first_with}
+
+module _ {R K : Type 0} (same : K → K → Bool) (key : R → K) where
+  pub first_with_some : (xs : List R) (q : K) (i : ℕ) (d : R) → first_at same key xs q ≡ Some i → first_with same key xs q ≡ Some (slice_index_or xs i d)
+  first_with_some xs q i d e =
+      let p : position_or_len (λ x. same (key x) q) xs ≡ i = grind (arith, nat_tests) in
+      find_at (λ x. same (key x) q) xs ∙ ap (slice_get xs) p ∙ slice_get-get_or xs i d (position-Some (λ x. same (key x) q) xs i d e).0
+
+  pub first_with_none : (xs : List R) (q : K) → first_at same key xs q ≡ None → first_with same key xs q ≡ None
+  first_with_none xs q e =
+      let p : length xs ≤ position_or_len (λ x. same (key x) q) xs = grind (arith, nat_tests) in
+      find_at (λ x. same (key x) q) xs ∙ slice_get_past xs _ p

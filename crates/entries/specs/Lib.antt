@@ -1,0 +1,3 @@
+pub mod Entries
+pub mod Link
+pub mod Subscriber

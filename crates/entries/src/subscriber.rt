@@ -1,0 +1,117 @@
+// Subscribers: the users that this exchange serves as Home or as server, and where the parameters of each are.
+ghost use Rattle.std.specs.Prelude.{◌≡◌};
+ghost use Rattle.std.specs.Option.{ok_or};
+ghost use Rattle.directory.specs.Contents.{contents, places};
+ghost use Rattle.entries.specs.Entries.{adding_answer, adding_left, with_entry, removing_answer, removing_left, without_entry};
+ghost use Rattle.entries.specs.Subscriber.{place_number, place_of, subscriber_key, no_subscriber, subscriber_of, dialled_key};
+
+use directory::{Blank, Directory, Keyed};
+use refusal::Refusal;
+use users::UserNumber;
+use wire::UnknownNumber;
+
+// The key that authenticates a user.
+pub type UserKey = [u8; 16];
+
+// Where the parameters of a user are.
+#[derive(Clone, Copy, PartialEq, Eq, Debug)]
+pub enum KeyPlace {
+    NoParameters = 0,
+    Here = 1,
+    Server = 2,
+}
+
+impl From<KeyPlace> for u8 {
+    ghost from_gives = { λ place n. n ≡ place_number place };
+
+    fn from(place: KeyPlace) -> u8 {
+        place as u8
+    }
+}
+
+impl TryFrom<u8> for KeyPlace {
+    type Error = UnknownNumber;
+
+    ghost try_from_gives = { λ n answer. answer ≡ ok_or (place_of n) (record { 0 = n }) };
+
+    fn try_from(number: u8) -> Result<KeyPlace, UnknownNumber> {
+        match number {
+            0 => Ok(KeyPlace::NoParameters),
+            1 => Ok(KeyPlace::Here),
+            2 => Ok(KeyPlace::Server),
+            _ => Err(UnknownNumber(number)),
+        }
+    }
+}
+
+// It has no Debug, so that its key is never written by one.
+#[derive(Clone, Copy)]
+pub struct Subscriber {
+    pub user: UserNumber,
+    pub place: KeyPlace,
+    pub user_key: UserKey,
+}
+
+impl Keyed for Subscriber {
+    ghost keyed = { subscriber_key };
+
+    fn key(&self) -> u64 {
+        self.user.key
+    }
+}
+
+impl Blank for Subscriber {
+    ghost blanked = { no_subscriber };
+
+    fn blank() -> Subscriber {
+        Subscriber {
+            user: UserNumber { key: 0 },
+            place: KeyPlace::NoParameters,
+            user_key: [0; 16],
+        }
+    }
+}
+
+impl Subscriber {
+    // The subscriber with some digits, a place by its number, and a user's key.
+    fn new(digits: &[u8], place: u8, user_key: UserKey) -> Result<Subscriber, Refusal>
+        ensures { result ≡ subscriber_of digits.now place user_key }
+    {
+        let user = UserNumber::from_digits(digits).ok_or(Refusal::Misdialled)?;
+        let place = KeyPlace::try_from(place).or(Err(Refusal::Misdialled))?;
+        Ok(Subscriber {
+            user,
+            place,
+            user_key,
+        })
+    }
+}
+
+// Adds a subscriber.
+pub fn add_subscriber(
+    subscribers: &mut Directory<'_, Subscriber>,
+    digits: &[u8],
+    place: u8,
+    user_key: UserKey,
+) -> Result<(), Refusal>
+    ensures answer { result ≡ adding_answer subscriber_key (places subscribers.old) (contents subscribers.old) (subscriber_of digits.now place user_key) }
+    ensures list { contents subscribers.new ≡ adding_left subscriber_key (places subscribers.old) (contents subscribers.old) (subscriber_of digits.now place user_key) }
+    ensures size { places subscribers.new ≡ places subscribers.old }
+    ensures whole { subscribers.new ≡ with_entry subscriber_key subscribers.old (subscriber_of digits.now place user_key) }
+{
+    subscribers.add(Subscriber::new(digits, place, user_key)?)
+}
+
+// Removes the subscriber with some digits, and erases its key.
+pub fn remove_subscriber(
+    subscribers: &mut Directory<'_, Subscriber>,
+    digits: &[u8],
+) -> Result<(), Refusal>
+    ensures answer { result ≡ removing_answer subscriber_key (contents subscribers.old) (dialled_key digits.now) }
+    ensures list { contents subscribers.new ≡ removing_left subscriber_key (contents subscribers.old) (dialled_key digits.now) }
+    ensures size { places subscribers.new ≡ places subscribers.old }
+    ensures whole { subscribers.new ≡ without_entry subscriber_key no_subscriber subscribers.old (dialled_key digits.now) }
+{
+    let user = UserNumber::from_digits(digits).ok_or(Refusal::Misdialled)?;
+    subscribers.remove(user.key)
+}
