@@ -5,7 +5,7 @@ ghost use Rattle.directory.specs.Found.{first_at, first_with};
 ghost use Rattle.directory.specs.Steps.{known, add_answer, add_list, remove_answer, remove_list};
 ghost use Rattle.directory.specs.Changes.{added, taken_out, NeverTwoOfAKey, FreedIsErasedAndReused};
 
-use crate::keyed::{Blank, Keyed, lookup};
+use crate::keyed::{Blank, Keyed, fetch, lookup};
 use refusal::Refusal;
 
 // The first `count` places are in use, and those behind them are free.
@@ -58,8 +58,7 @@ impl<'a, R: Keyed + Copy> Directory<'a, R> {
     pub fn get(&self, key: u64) -> Option<R>
         ensures { result ≡ first_with nat_eq R.keyed (contents self.now) key }
     {
-        let place = self.find(key)?;
-        Some(self.used()[place])
+        fetch(self.used(), key)
     }
 }
 

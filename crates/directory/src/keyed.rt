@@ -1,5 +1,5 @@
 ghost use Rattle.std.specs.Prelude.{◌≡◌, ℕ, ◌<◌, length, IfSome, nat_eq};
-ghost use Rattle.directory.specs.Found.{first_at};
+ghost use Rattle.directory.specs.Found.{first_at, first_with};
 
 // A record with a key.
 pub trait Keyed {
@@ -24,4 +24,12 @@ pub fn lookup<R: Keyed>(records: &[R], key: u64) -> Option<usize>
     ensures within { IfSome result (λ i. i < length records.now) }
 {
     records.iter().position(|item| item.key() == key)
+}
+
+// The first record with the key.
+pub fn fetch<R: Keyed + Copy>(records: &[R], key: u64) -> Option<R>
+    ensures { result ≡ first_with nat_eq R.keyed records.now key }
+{
+    let place = lookup(records, key)?;
+    Some(records[place])
 }

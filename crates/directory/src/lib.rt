@@ -5,4 +5,4 @@ mod directory;
 mod keyed;
 
 pub use directory::Directory;
-pub use keyed::{Blank, Keyed, lookup};
+pub use keyed::{Blank, Keyed, fetch, lookup};

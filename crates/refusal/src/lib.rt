@@ -26,7 +26,7 @@ pub enum Refusal {
     Stray = 6,
     // The directory has a record with this key.
     Twice = 7,
-    // No place is left for a dialogue or a record.
+    // No place is left for a dialogue, a record or a row.
     Full = 8,
     // The numbers for opening dialogues are used up.
     Spent = 9,

@@ -1,0 +1,4 @@
+mod Computed
+mod Keys
+mod Rows
+mod Masked

@@ -1,0 +1,10 @@
+pub mod Directions
+pub mod Meaning
+pub mod Words
+pub mod Xtea
+pub mod Published
+pub mod Bytes
+pub mod Keys
+pub mod Card
+pub mod Operator
+pub mod Sizes

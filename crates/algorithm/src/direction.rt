@@ -1,0 +1,17 @@
+ghost use Rattle.std.specs.Prelude.{◌≡◌};
+ghost use Rattle.algorithm.specs.Directions.{direction_number};
+
+// Whose proof a session key is for.
+#[derive(Clone, Copy, PartialEq, Eq, Debug)]
+pub enum Direction {
+    User = 1,
+    Network = 2,
+}
+
+impl From<Direction> for u8 {
+    ghost from_gives = { λ direction n. n ≡ direction_number direction };
+
+    fn from(direction: Direction) -> u8 {
+        direction as u8
+    }
+}

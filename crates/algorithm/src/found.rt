@@ -1,0 +1,13 @@
+// In a file of its own: a struct with an invariant imports all that its file cites, and this cites what names the rows.
+ghost use Rattle.std.specs.Prelude.{◌≡◌};
+ghost use Rattle.algorithm.specs.Card.{row_for};
+
+use crate::row::{Row, challenge_key};
+use directory::fetch;
+
+// The first row with a challenge.
+pub fn row_for(rows: &[Row], challenge: &[u8; 8]) -> Option<Row>
+    ensures { result ≡ row_for rows.now challenge.now }
+{
+    fetch(rows, challenge_key(challenge))
+}

@@ -1,0 +1,117 @@
+// Questions to an algorithm, and what is answered.
+use crate::words;
+use algorithm::{Algorithm, Direction, Operator, answer};
+use anyhow::{Result, bail};
+use std::fmt;
+use std::str::SplitWhitespace;
+
+// A value that is compared.
+#[derive(Clone, Copy)]
+pub enum Value {
+    Number(u8),
+    Response([u8; 4]),
+    Block([u8; 8]),
+    Session([u8; 16]),
+}
+
+impl fmt::Display for Value {
+    fn fmt<W: fmt::Write>(&self, f: &mut fmt::Formatter<W>) -> fmt::Result {
+        match self {
+            Value::Number(number) => write!(f, "{number:02x}"),
+            Value::Response(bytes) => write_hex(bytes, f),
+            Value::Block(bytes) => write_hex(bytes, f),
+            Value::Session(bytes) => write_hex(bytes, f),
+        }
+    }
+}
+
+fn write_hex<W: fmt::Write>(bytes: &[u8], f: &mut fmt::Formatter<W>) -> fmt::Result {
+    for byte in bytes {
+        write!(f, "{byte:02x}")?;
+    }
+    Ok(())
+}
+
+#[derive(Clone, Copy)]
+pub enum Question {
+    Number,
+    Session {
+        direction: Direction,
+        key: [u8; 16],
+        parameter: [u8; 8],
+    },
+    Response {
+        session: [u8; 16],
+        challenge: [u8; 8],
+    },
+    Answer {
+        direction: Direction,
+        key: [u8; 16],
+        parameter: [u8; 8],
+        challenge: [u8; 8],
+    },
+}
+
+impl Question {
+    // The question of a line that begins with this word.
+    pub fn read(kind: &str, rest: &mut SplitWhitespace) -> Result<Question> {
+        match kind {
+            "number" => Ok(Question::Number),
+            "session" => Ok(Question::Session {
+                direction: words::direction(rest)?,
+                key: words::key(rest)?,
+                parameter: words::block(rest)?,
+            }),
+            "response" => Ok(Question::Response {
+                session: words::key(rest)?,
+                challenge: words::block(rest)?,
+            }),
+            "answer" => Ok(Question::Answer {
+                direction: words::direction(rest)?,
+                key: words::key(rest)?,
+                parameter: words::block(rest)?,
+                challenge: words::block(rest)?,
+            }),
+            _ => bail!("a line begins with another word"),
+        }
+    }
+
+    // Asked through as many layers as there are masks, at most two, the first one next to the algorithm.
+    pub fn ask<A: Algorithm + Copy>(&self, algorithm: A, masks: &[[u8; 8]]) -> Value {
+        match *masks {
+            [] => self.ask_one(algorithm),
+            [first] => self.ask_one(Operator {
+                below: algorithm,
+                mask: first,
+            }),
+            [first, second, ..] => self.ask_one(Operator {
+                below: Operator {
+                    below: algorithm,
+                    mask: first,
+                },
+                mask: second,
+            }),
+        }
+    }
+
+    fn ask_one<A: Algorithm + Copy>(&self, algorithm: A) -> Value {
+        let mut algorithm = algorithm;
+        match self {
+            Question::Number => Value::Number(algorithm.number()),
+            Question::Session {
+                direction,
+                key,
+                parameter,
+            } => Value::Session(algorithm.session(*direction, key, parameter)),
+            Question::Response { session, challenge } => {
+                Value::Response(algorithm.response(session, challenge))
+            }
+            Question::Answer {
+                direction,
+                key,
+                parameter,
+                challenge,
+            } => Value::Response(answer(&mut algorithm, *direction, key, parameter, challenge)),
+        }
+    }
+}
