@@ -1,5 +1,5 @@
 -- Recorded cards.
-use Rattle.std.specs.Prelude.{ℕ, cond, List, [], ◌∷◌, ◌++◌, length, take, find, replicate, Some, None, Ok, Err, Option, Result, nat_lt}
+use Rattle.std.specs.Prelude.{ℕ, cond, List, [], ◌∷◌, ◌++◌, length, take, find, replicate, Some, None, is_ok, Ok, Err, Option, Result, nat_lt}
 use Rattle.std.specs.Str.{bytes_eq}
 use Rattle.refusal.specs.declared.Refusal.{Refusal}
 use Rattle.refusal.specs.declared.Refusal.TheVariants.{Full}
@@ -16,12 +16,12 @@ abbrev pub card_rows : RecordedCard → List Row
 card_rows card = rows_of card.recording
 
 -- the answer to adding a row
-abbrev pub adding_answer : List Row → Result (Unit {0}) Refusal
-adding_answer rows = cond (nat_lt (length rows) 16) (Ok tt) (Err Full)
+abbrev pub row_answer : List Row → Result (Unit {0}) Refusal
+row_answer rows = cond (nat_lt (length rows) 16) (Ok tt) (Err Full)
 
 -- the rows left
 abbrev pub rows_left : List Row → Row → List Row
-rows_left rows row = cond (nat_lt (length rows) 16) (rows ++ row ∷ []) rows
+rows_left rows row = cond (is_ok (row_answer rows)) (rows ++ row ∷ []) rows
 
 -- the first row with a challenge
 abbrev pub row_for : List Row → List ℕ → Option Row

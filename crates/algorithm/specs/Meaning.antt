@@ -9,11 +9,11 @@ pub record Meaning : Type 0 where
   -- the response to a challenge under a session key
   pub response : List ℕ → List ℕ → List ℕ
 
--- the number is one byte, and the answers have their sizes where what is asked with has its own
+-- the number is one byte, and the answers have their sizes where keys and parameters have theirs, whatever the challenge
 pub record IsSized (m : Meaning) : Type 0 where
   pub number : m.number < 256
   pub session : (d : Direction) (key parameter : List ℕ) → length key ≡ 16 → length parameter ≡ 8 → length (m.session d key parameter) ≡ 16
-  pub response : (session challenge : List ℕ) → length session ≡ 16 → length challenge ≡ 8 → length (m.response session challenge) ≡ 4
+  pub response : (session challenge : List ℕ) → length session ≡ 16 → length (m.response session challenge) ≡ 4
 
 -- the response to a challenge under a fresh session key
 abbrev pub answered : Meaning → Direction → List ℕ → List ℕ → List ℕ → List ℕ

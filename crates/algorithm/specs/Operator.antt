@@ -2,8 +2,8 @@
 use Rattle.std.specs.Prelude.{ℕ, List, [], ◌∷◌, bit_xor}
 use Rattle.algorithm.specs.Meaning.{Meaning}
 
--- a challenge changed by a mask, byte by byte by exclusive or, as far as both go: a shorter challenge uses the mask's first
--- bytes, and of a longer one the bytes beyond the mask stay
+-- a challenge changed by a mask, byte by byte by exclusive or, as far as both go: a shorter challenge uses the mask's
+-- first bytes, and of a longer one the bytes beyond the mask stay
 abbrev pub masked : List ℕ → List ℕ → List ℕ
 masked [] mask = []
 masked (c ∷ cs) [] = c ∷ cs

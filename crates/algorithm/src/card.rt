@@ -1,4 +1,5 @@
-// Recorded cards: the rows are all added before the card is asked, so there are two types.
+// Recorded cards: the rows are all added before the card is asked, so there are two types. Neither is copied, so that no
+// row comes behind a question.
 ghost use Rattle.std.specs.Prelude.{◌≡◌, ◌≤◌, [], length, OnErr};
 
 use crate::algorithm::Algorithm;
@@ -10,7 +11,7 @@ use refusal::Refusal;
 const ROWS: usize = 16;
 
 // A card that takes rows and is not asked yet. The first `count` places are in use.
-#[derive(Clone, Copy)]
+#[derive(Drop)]
 pub struct Recording {
     rows: [Row; ROWS],
     count: usize,
@@ -19,7 +20,7 @@ pub struct Recording {
 }
 
 impl Recording {
-    ghost use Rattle.algorithm.specs.Card.{rows_of, card_rows, adding_answer, rows_left};
+    ghost use Rattle.algorithm.specs.Card.{rows_of, card_rows, row_answer, rows_left};
 
     // A card with no rows.
     pub fn new() -> Recording
@@ -35,10 +36,10 @@ impl Recording {
         }
     }
 
-    // Adds a row behind the others. A challenge may stand in several rows. A card that is full refuses it, and a refusal
-    // changes nothing.
+    // Adds a row behind the others. A challenge may stand in several rows. A card that is full refuses it, and a
+    // refusal changes nothing.
     pub fn add(&mut self, row: Row) -> Result<(), Refusal>
-        ensures answer { result ≡ adding_answer (rows_of self.old) }
+        ensures answer { result ≡ row_answer (rows_of self.old) }
         ensures rows { rows_of self.new ≡ rows_left (rows_of self.old) row }
         ensures unchanged { OnErr result (self.new ≡ self.old) }
     {
@@ -59,7 +60,7 @@ impl Recording {
 }
 
 // Algorithm 2: a card that is asked, and takes no rows.
-#[derive(Clone, Copy)]
+#[derive(Drop)]
 pub struct RecordedCard {
     recording: Recording,
 }

@@ -1,4 +1,4 @@
-// In a file of its own: a struct with an invariant imports all that its file cites, and this cites what names the rows.
+// A file of its own: what a file with a struct's invariant cites may not name that struct, and `row_for` names rows.
 ghost use Rattle.std.specs.Prelude.{◌≡◌};
 ghost use Rattle.algorithm.specs.Card.{row_for};
 

@@ -6,8 +6,8 @@ ghost use Rattle.algorithm.specs.Sizes.{layer_is_sized};
 use crate::algorithm::Algorithm;
 use crate::direction::Direction;
 
-// It keeps the session keys and the number of the algorithm below, and changes each challenge by its mask.
-#[derive(Clone, Copy)]
+// Its number and session keys are those of the algorithm below, which is asked each challenge changed by the mask.
+#[derive(Drop)]
 pub struct Operator<A> {
     pub below: A,
     pub mask: [u8; 8],

@@ -1,5 +1,5 @@
 // XTEA, Needham and Wheeler 1997, with 32 cycles.
-ghost use Rattle.std.specs.Prelude.{◌≡◌, ◌+◌, ◌≤◌, ◌++◌, length, take};
+ghost use Rattle.std.specs.Prelude.{◌≡◌, ◌+◌, ◌≤◌, ◌++◌, length};
 ghost use Rattle.algorithm.specs.Words.{word, key_words, start, block_of};
 ghost use Rattle.algorithm.specs.Xtea.{cycle, cycles, enciphered, last_changed, xtea_meaning};
 ghost use Rattle.algorithm.specs.Published.{PublishedStand};

@@ -52,6 +52,14 @@ pub enum Question {
     },
 }
 
+// The layers over an algorithm by their masks, the one next to it first.
+#[derive(Clone, Copy)]
+pub enum Layers {
+    None,
+    One([u8; 8]),
+    Two([u8; 8], [u8; 8]),
+}
+
 impl Question {
     // The question of a line that begins with this word.
     pub fn read(kind: &str, rest: &mut SplitWhitespace) -> Result<Question> {
@@ -76,26 +84,25 @@ impl Question {
         }
     }
 
-    // Asked through as many layers as there are masks, at most two, the first one next to the algorithm.
-    pub fn ask<A: Algorithm + Copy>(&self, algorithm: A, masks: &[[u8; 8]]) -> Value {
-        match *masks {
-            [] => self.ask_one(algorithm),
-            [first] => self.ask_one(Operator {
+    // Asked of an algorithm, or through the layers over it.
+    pub fn ask_through<A: Algorithm + Drop>(&self, layers: Layers, algorithm: A) -> Value {
+        match layers {
+            Layers::None => self.ask(algorithm),
+            Layers::One(mask) => self.ask(Operator {
                 below: algorithm,
-                mask: first,
+                mask,
             }),
-            [first, second, ..] => self.ask_one(Operator {
+            Layers::Two(mask, upper) => self.ask(Operator {
                 below: Operator {
                     below: algorithm,
-                    mask: first,
+                    mask,
                 },
-                mask: second,
+                mask: upper,
             }),
         }
     }
 
-    fn ask_one<A: Algorithm + Copy>(&self, algorithm: A) -> Value {
-        let mut algorithm = algorithm;
+    fn ask<A: Algorithm + Drop>(&self, mut algorithm: A) -> Value {
         match self {
             Question::Number => Value::Number(algorithm.number()),
             Question::Session {

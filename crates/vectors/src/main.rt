@@ -7,17 +7,25 @@ mod ask;
 mod setup;
 mod words;
 
+use anyhow::{Context, bail};
 use setup::Setup;
 use std::io::Read;
 
 fn main(rt: HostRuntime) -> anyhow::Result<()> {
     let mut table = String::new(rt.alloc());
     rt.stdin().read_to_string(&mut table)?;
-    let mut setup = Setup::new();
+    let mut setup = Setup::new(rt.alloc());
+    let mut all_agree = true;
     for (place, line) in table.lines().enumerate() {
-        if let Some(finding) = setup.finding(rt.alloc(), line)? {
+        let here = format!(in rt.alloc(); "line {}", place + 1)?;
+        let found = setup.finding(rt.alloc(), line).context(here)?;
+        if let Some(finding) = found {
+            all_agree = all_agree && finding.agrees();
             println!(rt; "line {}: {finding}", place + 1)?;
         }
+    }
+    if !all_agree {
+        bail!("not every value is as in the table");
     }
     Ok(())
 }

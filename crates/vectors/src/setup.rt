@@ -1,28 +1,62 @@
 // What the lines so far have set up.
-use crate::ask::{Question, Value};
+use crate::ask::{Layers, Question, Value};
 use crate::words;
 use algorithm::{Recording, Row, Xtea, encipher};
 use anyhow::{Result, bail};
 use std::alloc::Global;
+use std::fmt;
 use std::str::SplitWhitespace;
 
 #[derive(Drop)]
 pub struct Setup {
-    recording: Recording,
+    // The rows of the card: at most as many as a card takes.
+    rows: Vec<Row>,
     masks: [[u8; 8]; 2],
+}
+
+// A value, and what the table has.
+#[derive(Clone, Copy)]
+pub struct Finding<'a> {
+    kind: &'a str,
+    value: Value,
+    agrees: bool,
+    wanted: &'a str,
+}
+
+impl Finding<'_> {
+    pub fn agrees(&self) -> bool {
+        self.agrees
+    }
+}
+
+impl fmt::Display for Finding<'_> {
+    fn fmt<W: fmt::Write>(&self, f: &mut fmt::Formatter<W>) -> fmt::Result {
+        let Finding {
+            kind,
+            value,
+            agrees,
+            wanted,
+        } = *self;
+        write!(f, "{kind} {value}, ")?;
+        if agrees {
+            write!(f, "as in the table")
+        } else {
+            write!(f, "but the table has {wanted}")
+        }
+    }
 }
 
 impl Setup {
     // A card with no rows, and masks of zero bytes.
-    pub fn new() -> Setup {
+    pub fn new(alloc: Global) -> Setup {
         Setup {
-            recording: Recording::new(),
+            rows: Vec::new(alloc),
             masks: [[0; 8]; 2],
         }
     }
 
-    // Whether the value of a line is as the line has it, in words. Blank lines, comments (#) and masks have none.
-    pub fn finding(&mut self, alloc: Global, line: &str) -> Result<Option<String>> {
+    // What is found of a line's value. Blank lines, comments (#) and masks have none.
+    pub fn finding<'a>(&mut self, alloc: Global, line: &'a str) -> Result<Option<Finding<'a>>> {
         let mut rest = line.split_whitespace();
         let Some(kind) = rest.next() else {
             return Ok(None);
@@ -32,19 +66,19 @@ impl Setup {
         }
         if kind == "masks" {
             self.masks = [words::block(&mut rest)?, words::block(&mut rest)?];
+            words::end(&mut rest)?;
             return Ok(None);
         }
         let value = self.value(kind, &mut rest)?;
-        let value = format!(in alloc; "{value}")?;
         let wanted = words::next_word(&mut rest)?;
-        if rest.next().is_some() {
-            bail!("a line has a word too many");
-        }
-        if value.as_str() == wanted {
-            Ok(Some(format!(in alloc; "{kind} {value}, as in the table")?))
-        } else {
-            Ok(Some(format!(in alloc; "{kind} {value}, but the table has {wanted}")?))
-        }
+        words::end(&mut rest)?;
+        let text = format!(in alloc; "{value}")?;
+        Ok(Some(Finding {
+            kind,
+            value,
+            agrees: text.as_str() == wanted,
+            wanted,
+        }))
     }
 
     // The value that a line asks for.
@@ -60,7 +94,7 @@ impl Setup {
                 Ok(Value::Number(self.enter(Row {
                     challenge,
                     response,
-                })))
+                })?))
             }
             _ => {
                 let asked = words::next_word(rest)?;
@@ -70,24 +104,37 @@ impl Setup {
         }
     }
 
+    // A card with the rows so far, which takes more.
+    fn recording(&self) -> Result<Recording> {
+        let mut recording = Recording::new();
+        for row in &self.rows {
+            recording.add(*row)?;
+        }
+        Ok(recording)
+    }
+
     // Adds a row to the card: 0, or the number of the refusal.
-    fn enter(&mut self, row: Row) -> u8 {
-        match self.recording.add(row) {
-            Ok(()) => 0,
-            Err(refusal) => u8::from(refusal),
+    fn enter(&mut self, row: Row) -> Result<u8> {
+        match self.recording()?.add(row) {
+            Ok(()) => {
+                self.rows.push(row)?;
+                Ok(0)
+            }
+            Err(refusal) => Ok(u8::from(refusal)),
         }
     }
 
     // What the algorithm with this name answers: + stands for a layer with the first mask, ++ for one more with the second.
     fn answer(&self, asked: &str, question: &Question) -> Result<Value> {
         let [first, second] = self.masks;
+        let card = self.recording()?.finish();
         match asked {
-            "xtea" => Ok(question.ask(Xtea, &[])),
-            "xtea+" => Ok(question.ask(Xtea, &[first])),
-            "xtea++" => Ok(question.ask(Xtea, &[first, second])),
-            "card" => Ok(question.ask(self.recording.finish(), &[])),
-            "card+" => Ok(question.ask(self.recording.finish(), &[first])),
-            "card++" => Ok(question.ask(self.recording.finish(), &[first, second])),
+            "xtea" => Ok(question.ask_through(Layers::None, Xtea)),
+            "xtea+" => Ok(question.ask_through(Layers::One(first), Xtea)),
+            "xtea++" => Ok(question.ask_through(Layers::Two(first, second), Xtea)),
+            "card" => Ok(question.ask_through(Layers::None, card)),
+            "card+" => Ok(question.ask_through(Layers::One(first), card)),
+            "card++" => Ok(question.ask_through(Layers::Two(first, second), card)),
             _ => bail!("no algorithm has this name"),
         }
     }

@@ -8,6 +8,13 @@ pub fn next_word<'a>(words: &mut SplitWhitespace<'a>) -> Result<&'a str> {
     words.next().context("a word is missing")
 }
 
+pub fn end(words: &mut SplitWhitespace) -> Result<()> {
+    if words.next().is_some() {
+        bail!("a line has a word too many");
+    }
+    Ok(())
+}
+
 pub fn key(words: &mut SplitWhitespace) -> Result<[u8; 16]> {
     Ok(<[u8; 16]>::from_hex(next_word(words)?)?)
 }
