@@ -7,7 +7,7 @@ use std::str::SplitWhitespace;
 
 // A value that is compared.
 #[derive(Clone, Copy)]
-pub enum Value {
+pub(crate) enum Value {
     Number(u8),
     Response([u8; 4]),
     Block([u8; 8]),
@@ -33,7 +33,7 @@ fn write_hex<W: fmt::Write>(bytes: &[u8], f: &mut fmt::Formatter<W>) -> fmt::Res
 }
 
 #[derive(Clone, Copy)]
-pub enum Question {
+pub(crate) enum Question {
     Number,
     Session {
         direction: Direction,
@@ -54,7 +54,7 @@ pub enum Question {
 
 // The layers over an algorithm by their masks, the one next to it first.
 #[derive(Clone, Copy)]
-pub enum Layers {
+pub(crate) enum Layers {
     None,
     One([u8; 8]),
     Two([u8; 8], [u8; 8]),
@@ -62,7 +62,7 @@ pub enum Layers {
 
 impl Question {
     // The question of a line that begins with this word.
-    pub fn read(kind: &str, rest: &mut SplitWhitespace) -> Result<Question> {
+    pub(crate) fn read(kind: &str, rest: &mut SplitWhitespace) -> Result<Question> {
         match kind {
             "number" => Ok(Question::Number),
             "session" => Ok(Question::Session {
@@ -85,7 +85,7 @@ impl Question {
     }
 
     // Asked of an algorithm, or through the layers over it.
-    pub fn ask_through<A: Algorithm + Drop>(&self, layers: Layers, algorithm: A) -> Value {
+    pub(crate) fn ask_through<A: Algorithm + Drop>(&self, layers: Layers, algorithm: A) -> Value {
         match layers {
             Layers::None => self.ask(algorithm),
             Layers::One(mask) => self.ask(Operator {

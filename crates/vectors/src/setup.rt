@@ -8,7 +8,7 @@ use std::fmt;
 use std::str::SplitWhitespace;
 
 #[derive(Drop)]
-pub struct Setup {
+pub(crate) struct Setup {
     // The rows of the card: at most as many as a card takes.
     rows: Vec<Row>,
     masks: [[u8; 8]; 2],
@@ -16,7 +16,7 @@ pub struct Setup {
 
 // A value, and what the table has.
 #[derive(Clone, Copy)]
-pub struct Finding<'a> {
+pub(crate) struct Finding<'a> {
     kind: &'a str,
     value: Value,
     agrees: bool,
@@ -24,7 +24,7 @@ pub struct Finding<'a> {
 }
 
 impl Finding<'_> {
-    pub fn agrees(&self) -> bool {
+    pub(crate) fn agrees(&self) -> bool {
         self.agrees
     }
 }
@@ -48,7 +48,7 @@ impl fmt::Display for Finding<'_> {
 
 impl Setup {
     // A card with no rows, and masks of zero bytes.
-    pub fn new(alloc: Global) -> Setup {
+    pub(crate) fn new(alloc: Global) -> Setup {
         Setup {
             rows: Vec::new(alloc),
             masks: [[0; 8]; 2],
@@ -56,7 +56,11 @@ impl Setup {
     }
 
     // What is found of a line's value. Blank lines, comments (#) and masks have none.
-    pub fn finding<'a>(&mut self, alloc: Global, line: &'a str) -> Result<Option<Finding<'a>>> {
+    pub(crate) fn finding<'a>(
+        &mut self,
+        alloc: Global,
+        line: &'a str,
+    ) -> Result<Option<Finding<'a>>> {
         let mut rest = line.split_whitespace();
         let Some(kind) = rest.next() else {
             return Ok(None);
@@ -132,9 +136,9 @@ impl Setup {
             "xtea" => Ok(question.ask_through(Layers::None, Xtea)),
             "xtea+" => Ok(question.ask_through(Layers::One(first), Xtea)),
             "xtea++" => Ok(question.ask_through(Layers::Two(first, second), Xtea)),
-            "card" => Ok(question.ask_through(Layers::None, card)),
-            "card+" => Ok(question.ask_through(Layers::One(first), card)),
-            "card++" => Ok(question.ask_through(Layers::Two(first, second), card)),
+            "recorded" => Ok(question.ask_through(Layers::None, card)),
+            "recorded+" => Ok(question.ask_through(Layers::One(first), card)),
+            "recorded++" => Ok(question.ask_through(Layers::Two(first, second), card)),
             _ => bail!("no algorithm has this name"),
         }
     }

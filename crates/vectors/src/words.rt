@@ -4,30 +4,30 @@ use anyhow::{Context, Result, bail};
 use hex::FromHex;
 use std::str::SplitWhitespace;
 
-pub fn next_word<'a>(words: &mut SplitWhitespace<'a>) -> Result<&'a str> {
+pub(crate) fn next_word<'a>(words: &mut SplitWhitespace<'a>) -> Result<&'a str> {
     words.next().context("a word is missing")
 }
 
-pub fn end(words: &mut SplitWhitespace) -> Result<()> {
+pub(crate) fn end(words: &mut SplitWhitespace) -> Result<()> {
     if words.next().is_some() {
         bail!("a line has a word too many");
     }
     Ok(())
 }
 
-pub fn key(words: &mut SplitWhitespace) -> Result<[u8; 16]> {
+pub(crate) fn key(words: &mut SplitWhitespace) -> Result<[u8; 16]> {
     Ok(<[u8; 16]>::from_hex(next_word(words)?)?)
 }
 
-pub fn block(words: &mut SplitWhitespace) -> Result<[u8; 8]> {
+pub(crate) fn block(words: &mut SplitWhitespace) -> Result<[u8; 8]> {
     Ok(<[u8; 8]>::from_hex(next_word(words)?)?)
 }
 
-pub fn response(words: &mut SplitWhitespace) -> Result<[u8; 4]> {
+pub(crate) fn response(words: &mut SplitWhitespace) -> Result<[u8; 4]> {
     Ok(<[u8; 4]>::from_hex(next_word(words)?)?)
 }
 
-pub fn direction(words: &mut SplitWhitespace) -> Result<Direction> {
+pub(crate) fn direction(words: &mut SplitWhitespace) -> Result<Direction> {
     match next_word(words)? {
         "user" => Ok(Direction::User),
         "network" => Ok(Direction::Network),
