@@ -1,7 +1,6 @@
 -- Removing by key and removing at the place of the first record with the key. Assumes nothing.
 use Rattle.std.proofs.Common.{nat_eq, sym, ◌≡◌, ℕ, suc, ◌+◌, ◌-◌, ◌<◌, ◌≤◌, Bool, List, [], ◌∷◌, ◌++◌, length, take, drop, Some, None, refl, ap, ◌∙◌, ⊎_elim, arith}
 use Rattle.std.proofs.lemmas.Bool.{cases_Bool}
-use Rattle.std.proofs.lemmas.Bool.Decides.{nat_tests}
 use Rattle.std.proofs.lemmas.List.{take_all, drop_all, append-nil}
 use Rattle.std.proofs.lemmas.List.Edits.{length-remove}
 use Rattle.std.proofs.Math.Seq.{take-append_seam}
@@ -12,6 +11,7 @@ use Rattle.directory.specs.Contents.{contents, vacated, without}
 use Rattle.directory.specs.Found.{first_at}
 use Rattle.directory.specs.Steps.{remove_list}
 use Rattle.directory.specs.Changes.{taken_out}
+use Rattle.directory.proofs.First.{place_found, place_past}
 
 remove_past : {R : Type 0} (xs : List R) (i : ℕ) → length xs ≤ i → remove xs i ≡ xs
 remove_past xs i h =
@@ -31,14 +31,10 @@ module _ {R K : Type 0} (same : K → K → Bool) (key : R → K) where
       (cases_Bool (same (key x) q))
 
   pub remove_list_some : (xs : List R) (q : K) (i : ℕ) → first_at same key xs q ≡ Some i → remove_list same key xs q ≡ remove xs i
-  remove_list_some xs q i e =
-      let p : position_or_len (λ x. same (key x) q) xs ≡ i = grind (arith, nat_tests) in
-      remove_list_is xs q ∙ ap (remove xs) p
+  remove_list_some xs q i e = remove_list_is xs q ∙ ap (remove xs) (place_found same key xs q i e)
 
   pub remove_list_none : (xs : List R) (q : K) → first_at same key xs q ≡ None → remove_list same key xs q ≡ xs
-  remove_list_none xs q e =
-      let p : length xs ≤ position_or_len (λ x. same (key x) q) xs = grind (arith, nat_tests) in
-      remove_list_is xs q ∙ remove_past xs _ p
+  remove_list_none xs q e = remove_list_is xs q ∙ remove_past xs _ (place_past same key xs q e)
 
 module _ {R : Type 0} where
   -- what is in use once the record at a place is taken out
