@@ -3,21 +3,23 @@
 
 A fit-out, 32 links, then a mix that is the same from start to end, so that tapes of
 different lengths compare. The mix `service`, taken where none is named: clocks in the
-main, initiations that open a dialogue (kept under 6 in 100, as no more than 60,000 can
-ever be opened: about a million records), initiations that are refused, and a few records
-that are passed over. Readings rise, and dialogues expire by the clock as they would in
-service; about 22 of the 32 places are taken.
+main, requests of all four kinds that open a dialogue (kept under 6 in 100 together, as no
+more than 60,000 can ever be opened: about a million records), requests that are refused,
+and a few records that are no calls. Readings rise, and dialogues expire by the clock as
+they would in service; about 22 of the 32 places are taken.
 The other mixes repeat one thing: `clocks` with rising readings, `full` initiations that
 find no place, `strangers` initiations to a peer that is no link, `unknown` empty records
 with an unknown tag, `subscribers` records that add one until there are 64 and are refused
-then, `openings` an initiation and the clock that ends it, in turn (once the
-numbers are spent the initiations are refused, and the clocks quiet or back).
+then, `openings` an initiation and the clock that ends it, in turn, and `proofs` a network
+proof, whose APDU is the longest, and the clock that ends it, in turn (once the numbers are
+spent, after 120,033 records, the requests are refused, and the clocks quiet).
 """
 import random
 import struct
 import sys
 
-T1 = 30_000
+PLAIN, WITH_VALUES, VISITOR_START, PROOF = range(0x20, 0x24)
+TIMERS = [30_000, 28_000, 32_000, 30_000, 30_000, 5_000]  # T1 to T5, TR
 MEAN_STEP = 72  # milliseconds from one record to the next
 
 
@@ -26,44 +28,60 @@ def record(tag, value):
 
 
 def service(n, rng, peers, stranger):
-    clock = struct.Struct(">BHQ").pack
-    head = struct.Struct(">BHQB").pack
+    head = struct.Struct(">BHQ").pack
     numbers = [bytes(rng.choices(b"0123456789", k=1 + i % 15)) for i in range(1500)]
+    challenges = [rng.randbytes(8) for _ in range(100)]
+    linked = [bytes([peer]) for peer in peers]
     refused = [b"", b"1234567890123456", b"12a4", b"555:", b"/20"]
-    passed_over = [
+    no_calls = [
         record(0x10, bytes(27)), record(0x11, bytes([peers[0]])), record(0x11, b""),
-        record(0x26, bytes(7)), record(0x7F, b"unknown"), record(0x00, b""),
+        record(VISITOR_START, bytes(7)), record(PROOF, bytes(15)), record(0x26, bytes(7)),
+        record(0x7F, b"unknown"), record(0x00, b""),
     ]
     pick, choice = rng.random, rng.choice
+    # The kinds of request in their shares, each with what may stand between its reading and its digits.
+    requests = ([(PLAIN, linked)] * 4 + [(WITH_VALUES, linked)] * 2 + [(VISITOR_START, [b""])] * 3
+                + [(PROOF, challenges)] * 3)
+    to_stranger = [(PLAIN, [bytes([stranger])]), (WITH_VALUES, [bytes([stranger])])]
+
+    def request(requests, now, digits):
+        tag, middles = choice(requests)
+        value = choice(middles) + choice(digits)
+        return head(tag, 8 + len(value), now) + value
+
     reading = 0.0
     for _ in range(n):
         reading += 2 * MEAN_STEP * pick()
         now = int(reading)
         kind = pick()
         if kind < 0.80:
-            yield clock(0x26, 8, now)
+            yield head(0x26, 8, now)
         elif kind < 0.858:
-            digits = choice(numbers)
-            yield head(0x20, 9 + len(digits), now, choice(peers)) + digits
+            yield request(requests, now, numbers)
         elif kind < 0.90:
-            digits = choice(refused)
-            yield head(0x20, 9 + len(digits), now, choice(peers)) + digits
+            yield request(requests, now, refused)
         elif kind < 0.94:
-            digits = choice(numbers)
-            yield head(0x20, 9 + len(digits), now, stranger) + digits
+            yield request(to_stranger, now, numbers)
         elif kind < 0.98:
-            digits = choice(numbers)
-            yield head(0x20, 9 + len(digits), now // 2, choice(peers)) + digits
+            yield request(requests, now // 2, numbers)
         else:
-            yield choice(passed_over)
+            yield choice(no_calls)
+
+
+def clock(reading):
+    return record(0x26, struct.pack(">Q", reading))
 
 
 def initiation(reading, peer):
-    return record(0x20, struct.pack(">QB", reading, peer) + b"123456789012345")
+    return record(PLAIN, struct.pack(">QB", reading, peer) + b"123456789012345")
+
+
+def proof(reading):
+    return record(PROOF, struct.pack(">Q", reading) + b"\x01\x23\x45\x67\x89\xab\xcd\xef" + b"123456789012345")
 
 
 def clocks(n, rng, peers, stranger):
-    return (record(0x26, struct.pack(">Q", i)) for i in range(n))
+    return (clock(i) for i in range(n))
 
 
 def full(n, rng, peers, stranger):
@@ -83,14 +101,18 @@ def subscribers(n, rng, peers, stranger):
 
 
 def openings(n, rng, peers, stranger):
-    return (record(0x26, struct.pack(">Q", i + T1)) if i % 2 else initiation(i, peers[-1]) for i in range(n))
+    return (clock(i + TIMERS[0]) if i % 2 else initiation(i, peers[-1]) for i in range(n))
 
 
-MIXES = {mix.__name__: mix for mix in (service, clocks, full, strangers, unknown, subscribers, openings)}
+def proofs(n, rng, peers, stranger):
+    return (clock(i + TIMERS[3]) if i % 2 else proof(i) for i in range(n))
+
+
+MIXES = {mix.__name__: mix for mix in (service, clocks, full, strangers, unknown, subscribers, openings, proofs)}
 
 
 def tape(n, mix, rng):
-    yield record(0x10, struct.pack(">6IBBB", T1, T1, T1, T1, T1, 5_000, 2, 3, 1))
+    yield record(0x10, struct.pack(">6IBBB", *TIMERS, 2, 3, 1))
     peers = rng.sample(range(1, 256), 33)
     stranger = peers.pop()
     for peer in peers:

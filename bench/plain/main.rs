@@ -8,6 +8,7 @@ const MOST_LINKS: usize = 32;
 const MOST_SUBSCRIBERS: usize = 64;
 const LAST_NUMBER: u16 = 60_000;
 const LAST_READING: u64 = 1 << 40;
+const ALGORITHM: u8 = 1;
 
 /// Why a record was not carried out; the value is the number on the sheet.
 #[derive(Clone, Copy)]
@@ -25,20 +26,50 @@ enum Refusal {
 /// What a record gives, other than a refusal.
 enum Outcome<'a> {
     Done,
-    Sent {
-        peer: u8,
-        name: u16,
-        digits: &'a [u8],
-    },
-    Expired {
-        name: u16,
-    },
+    Sent { peer: u8, invoke: Invoke<'a> },
+    Expired { name: u16, state: State },
 }
 
 type Answer<'a> = Result<Outcome<'a>, Refusal>;
 
+/// What a record asks for when it asks for a dialogue.
+enum Request<'a> {
+    PlainInitiation { peer: u8 },
+    InitiationWithValues { peer: u8 },
+    VisitorStart,
+    NetworkProof { challenge: &'a [u8; 8] },
+}
+
+/// An invoke that opens a dialogue.
+struct Invoke<'a> {
+    id: u16,
+    operation: Operation,
+    digits: &'a [u8],
+    can_compute: bool,
+    challenge: Option<&'a [u8; 8]>,
+}
+
+/// The value is the operation's number.
+#[derive(Clone, Copy)]
+enum Operation {
+    AuthWtmUser = 1,
+    GetWtatParam = 2,
+    WtatParamEnq = 3,
+    GetWtanParam = 4,
+}
+
+/// The state of a dialogue; the value is the number of the timer that runs in it.
+#[derive(Clone, Copy)]
+enum State {
+    I = 1,
+    F = 2,
+    R = 3,
+    N = 4,
+}
+
 struct Dialogue {
     name: u16,
+    state: State,
     ends: u64,
 }
 
@@ -51,7 +82,11 @@ struct Subscriber {
 }
 
 struct Exchange {
-    t1: u64,
+    /// T1 to T4.
+    timers: [u64; 4],
+    home: u8,
+    server: u8,
+    can_compute: bool,
     last_reading: u64,
     next_number: u16,
     links: Vec<u8>,
@@ -74,7 +109,10 @@ impl Exchange {
             return None;
         }
         Some(Exchange {
-            t1: number(&times[..4]),
+            timers: std::array::from_fn(|i| number(&times[4 * i..][..4])),
+            home: rest[0],
+            server: rest[1],
+            can_compute: rest[2] == 1,
             last_reading: 0,
             next_number: 1,
             links: Vec::with_capacity(MOST_LINKS),
@@ -92,7 +130,20 @@ impl Exchange {
                 self.subscribe(place, *key, digits)
             }
             (0x20, value) if value.len() >= 9 => {
-                self.initiate(number(&value[..8]), value[8], &value[9..])
+                let request = Request::PlainInitiation { peer: value[8] };
+                self.open(number(&value[..8]), request, &value[9..])
+            }
+            (0x21, value) if value.len() >= 9 => {
+                let request = Request::InitiationWithValues { peer: value[8] };
+                self.open(number(&value[..8]), request, &value[9..])
+            }
+            (0x22, value) if value.len() >= 8 => {
+                self.open(number(&value[..8]), Request::VisitorStart, &value[8..])
+            }
+            (0x23, value) if value.len() >= 16 => {
+                let (challenge, digits) = value[8..].split_first_chunk::<8>().unwrap();
+                let request = Request::NetworkProof { challenge };
+                self.open(number(&value[..8]), request, digits)
             }
             (0x26, value) if value.len() == 8 => self.clock(number(value)),
             _ => Err(Refusal::Record),
@@ -129,12 +180,19 @@ impl Exchange {
         Ok(Outcome::Done)
     }
 
-    fn initiate<'a>(&mut self, reading: u64, peer: u8, digits: &'a [u8]) -> Answer<'a> {
+    /// Opens a dialogue, and gives the invoke that it begins with.
+    fn open<'a>(&mut self, reading: u64, request: Request<'a>, digits: &'a [u8]) -> Answer<'a> {
         self.check_reading(reading)?;
         if self.dialogues.iter().flatten().any(|d| d.ends <= reading) {
             return Err(Refusal::Due);
         }
-        if !is_user_number(digits) || !self.links.contains(&peer) {
+        let is_linked = match request {
+            Request::PlainInitiation { peer } | Request::InitiationWithValues { peer } => {
+                self.links.contains(&peer)
+            }
+            Request::VisitorStart | Request::NetworkProof { .. } => true,
+        };
+        if !is_linked || !is_user_number(digits) {
             return Err(Refusal::Argument);
         }
         let Some(place) = self.dialogues.iter_mut().find(|d| d.is_none()) else {
@@ -144,32 +202,52 @@ impl Exchange {
             return Err(Refusal::NumbersSpent);
         }
         let name = self.next_number;
+        let computes = self.can_compute;
+        let (state, peer, operation, can_compute, challenge) = match request {
+            Request::PlainInitiation { peer } => {
+                (State::I, peer, Operation::AuthWtmUser, false, None)
+            }
+            Request::InitiationWithValues { .. } => {
+                (State::F, self.server, Operation::WtatParamEnq, false, None)
+            }
+            Request::VisitorStart => (State::R, self.home, Operation::GetWtatParam, computes, None),
+            Request::NetworkProof { challenge } => (
+                State::N,
+                self.home,
+                Operation::GetWtanParam,
+                computes,
+                Some(challenge),
+            ),
+        };
         *place = Some(Dialogue {
             name,
-            ends: reading + self.t1,
+            state,
+            ends: reading + self.timers[state as usize - 1],
         });
         self.next_number += 1;
         self.last_reading = reading;
-        Ok(Outcome::Sent { peer, name, digits })
+        Ok(Outcome::Sent {
+            peer,
+            invoke: Invoke {
+                id: name,
+                operation,
+                digits,
+                can_compute,
+                challenge,
+            },
+        })
     }
 
     fn clock(&mut self, reading: u64) -> Answer<'static> {
         self.check_reading(reading)?;
         // The timer that ends first, the lowest name on a tie, among those that have ended.
-        let mut first: Option<(u64, u16, usize)> = None;
-        for (place, dialogue) in self.dialogues.iter().enumerate() {
-            if let Some(d) = dialogue
-                && d.ends <= reading
-                && first.is_none_or(|(ends, name, _)| (d.ends, d.name) < (ends, name))
-            {
-                first = Some((d.ends, d.name, place));
-            }
-        }
-        match first {
-            Some((_, name, place)) => {
-                self.dialogues[place] = None;
-                Ok(Outcome::Expired { name })
-            }
+        let first = self
+            .dialogues
+            .iter_mut()
+            .filter(|place| place.as_ref().is_some_and(|d| d.ends <= reading))
+            .min_by_key(|place| place.as_ref().map(|d| (d.ends, d.name)));
+        match first.and_then(Option::take) {
+            Some(Dialogue { name, state, .. }) => Ok(Outcome::Expired { name, state }),
             None => {
                 self.last_reading = reading;
                 Ok(Outcome::Done)
@@ -183,6 +261,16 @@ impl Exchange {
         } else {
             Err(Refusal::Reading)
         }
+    }
+}
+
+impl Invoke<'_> {
+    /// Its size in writing.
+    fn size(&self) -> usize {
+        // The fields of kind, id and operation, and of the digits, then those that it may have.
+        let can_compute = if self.can_compute { 3 } else { 0 };
+        let proof = if self.challenge.is_some() { 11 + 4 } else { 0 };
+        4 + 5 + 4 + (3 + self.digits.len()) + can_compute + proof
     }
 }
 
@@ -212,21 +300,32 @@ fn put(out: &mut Vec<u8>, tag: u8, parts: &[&[u8]]) {
     }
 }
 
+fn put_invoke(out: &mut Vec<u8>, invoke: &Invoke) {
+    put(out, 0x01, &[&[1]]);
+    put(out, 0x02, &[&invoke.id.to_be_bytes()]);
+    put(out, 0x03, &[&[invoke.operation as u8]]);
+    put(out, 0x04, &[invoke.digits]);
+    if invoke.can_compute {
+        put(out, 0x05, &[]);
+    }
+    if let Some(challenge) = invoke.challenge {
+        put(out, 0x06, &[challenge]);
+        put(out, 0x07, &[&[ALGORITHM]]);
+    }
+}
+
 fn put_answer(sheet: &mut Vec<u8>, answer: Answer) {
     match answer {
         Ok(Outcome::Done) => put(sheet, 0x33, &[]),
-        Ok(Outcome::Sent { peer, name, digits }) => {
-            // Peer, kind field, invoke id field, operation field, head of the digits' field.
-            let length = 1 + 4 + 5 + 4 + 3 + digits.len();
+        Ok(Outcome::Sent { peer, invoke }) => {
             sheet.push(0x30);
-            sheet.extend_from_slice(&(length as u16).to_be_bytes());
+            sheet.extend_from_slice(&(1 + invoke.size() as u16).to_be_bytes());
             sheet.push(peer);
-            put(sheet, 0x01, &[&[1]]);
-            put(sheet, 0x02, &[&name.to_be_bytes()]);
-            put(sheet, 0x03, &[&[1]]);
-            put(sheet, 0x04, &[digits]);
+            put_invoke(sheet, &invoke);
         }
-        Ok(Outcome::Expired { name }) => put(sheet, 0x31, &[&[3], &name.to_be_bytes(), &[3, 1]]),
+        Ok(Outcome::Expired { name, state }) => {
+            put(sheet, 0x31, &[&[3], &name.to_be_bytes(), &[3, state as u8]])
+        }
         Err(refusal) => put(sheet, 0x32, &[&[refusal as u8]]),
     }
 }

@@ -1,10 +1,29 @@
 -- Of the dialogues that have ended, the fold over the places finds the one that precedes every other. Assumes nothing.
-use Rattle.std.proofs.Common.{◌≡◌, ℕ, ◌+◌, ◌<◌, ◌≤◌, true, false, cond, leb, ◌⊎◌, List, [], ◌∷◌, IfSome, Some, None, Option, sym, refl, ◌∙◌, subst, inl, inr, ⊎_elim, arith}
-use Rattle.std.proofs.lemmas.Bool.{cond_both, leb-true, leb-false}
+use Rattle.std.proofs.Common.{◌≡◌, ℕ, ◌+◌, ◌<◌, ◌≤◌, true, false, cond, leb, ◌⊎◌, List, [], ◌∷◌, length, IfSome, Some, None, Ok, Option, Result, sym, refl, ap, ◌∙◌, subst, inl, inr, ⊎_elim, arith}
+use Rattle.std.proofs.lemmas.Bool.{cond_both, le-leb, leb-true, leb-false}
 use Rattle.std.proofs.lemmas.Bool.Decides.{nat_tests}
+use Rattle.std.specs.Option.{ForSome}
+use Rattle.refusal.specs.declared.Refusal.{Refusal}
+use Rattle.wire.specs.declared.codes.ErrorCode.{ErrorCode}
+use Rattle.apdu.specs.declared.apdus.Body.{Body}
+use Rattle.apdu.specs.declared.apdus.Body.TheVariants.{ReturnError}
+use Rattle.apdu.specs.Encode.{encode}
 use Rattle.exchange.specs.declared.dialogue.Dialogue.{Dialogue}
-use Rattle.exchange.specs.Table.{ends_by, earlier, sooner, soonest, first_ended}
-use Rattle.exchange.specs.Laws.{Has, Precedes, NoneEnded, EndsFirst}
+use Rattle.exchange.specs.declared.dialogue.Notice.{Notice}
+use Rattle.exchange.specs.declared.dialogue.Step.{Step}
+use Rattle.exchange.specs.declared.dialogue.Step.TheVariants.{Closes}
+use Rattle.exchange.specs.declared.numbers.Owed.{Owed}
+use Rattle.exchange.specs.declared.numbers.OwnNumber.{OwnNumber}
+use Rattle.exchange.specs.declared.outcome.Done.{Done}
+use Rattle.exchange.specs.declared.outcome.Done.TheVariants.{Sent, Reported}
+use Rattle.exchange.specs.declared.outcome.Report.{Report}
+use Rattle.exchange.specs.declared.service.Service.{Service}
+use Rattle.exchange.specs.Calls.{After, CanTell, told}
+use Rattle.exchange.specs.Dialogue.{settled, expired}
+use Rattle.exchange.specs.Service.{Sound}
+use Rattle.exchange.specs.State.{owed_by}
+use Rattle.exchange.specs.Table.{Has, ends_by, earlier, sooner, soonest, first_ended}
+use Rattle.exchange.specs.Laws.{Precedes, NoneEnded, EndsFirst, Earliest}
 
 precedes_itself : (d : Dialogue) → Precedes d d
 precedes_itself d = inr (refl, omega arith)
@@ -99,3 +118,34 @@ first_ended_finds reading slots =
 
 pub first_ended_is : (reading : ℕ) (slots : List (Option Dialogue)) (found : Option (ℕ × Dialogue)) → first_ended reading slots ≡ found → Finds reading slots found
 first_ended_is reading slots found e = subst (Finds reading slots) e (first_ended_finds reading slots)
+
+-- what is told of the dialogue that ends first
+module _ (reading : ℕ) (s : Service) (place : ℕ) (d : Dialogue) (found : first_ended reading s.dialogues ≡ Some (place, d)) where
+  settled_first : (t u : Service) (out left : List ℕ) (done : Done) (b : Body) (r : Report) (o : Option Owed) → owed_by d.state ≡ o → record { result = Ok done; service = u; buffer = left } ≡ told t d.name (settled o b r) out → Earliest s reading (Ok done)
+  settled_first t u out left done b r None e h =
+      let k : ◌≡◌ {A = Result Done Refusal} (Ok done) (Ok (Reported d.name r)) = ap (λ (a : After). a.result) h in
+      let is : Reported d.name r ≡ done = cc in
+      subst (λ (x : Done). Earliest s reading (Ok x)) is (d, (e, refl), first_ended_is reading s.dialogues _ found)
+  settled_first t u out left done b r (Some owed) e h =
+      let size : ℕ = length (encode (record { id = owed.id.0; body = b })) in
+      let k : ◌≡◌ {A = Result Done Refusal} (Ok done) (Ok (Sent owed.peer size)) = ap (λ (a : After). a.result) h in
+      let is : Sent owed.peer size ≡ done = cc in
+      subst (λ (x : Done). Earliest s reading (Ok x)) is (d, (owed, e, refl), first_ended_is reading s.dialogues _ found)
+
+  pub told_first : (t u : Service) (out left : List ℕ) (done : Done) (name : OwnNumber) (n : Notice) → name ≡ d.name → n ≡ expired d.state → record { result = Ok done; service = u; buffer = left } ≡ told t name n out → Earliest s reading (Ok done)
+  told_first t u out left done name n is_name is_notice h =
+      let by_notice : told t name n out ≡ told t name (expired d.state) out = ap (λ (x : Notice). told t name x out) is_notice in
+      let by_name : told t name (expired d.state) out ≡ told t d.name (expired d.state) out = ap (λ (x : OwnNumber). told t x (expired d.state) out) is_name in
+      settled_first t u out left done _ _ (owed_by d.state) refl (h ∙ by_notice ∙ by_name)
+
+-- a step that closes, and leaves the dialogue as it was
+pub closing : (d left : Dialogue) (step : Step) (n m : Notice) → ◌≡◌ {A = Step × Dialogue} (step, left) (Closes m, d) → step ≡ Closes n → (left.name ≡ d.name) × (n ≡ m)
+closing d left step n m e is = let first : step ≡ Closes m = ap (λ (p : Step × Dialogue). p.0) e in (ap (λ (p : Step × Dialogue). p.1.name) e, cc)
+
+settled_right : (o : Option Owed) (e : ErrorCode) (r : Report) → ForSome o (λ owed. 1 ≤ owed.id.0) → CanTell (settled o (ReturnError e) r)
+settled_right None e r h = tt
+settled_right (Some owed) e r h = rw (le-leb 1 owed.id.0 (h owed refl)) refl
+
+-- what is told of it is right for the writer, where what is owed can be answered
+pub expired_right : (reading : ℕ) (s : Service) (place : ℕ) (d : Dialogue) → Sound s → first_ended reading s.dialogues ≡ Some (place, d) → CanTell (expired d.state)
+expired_right reading s place d sound found = settled_right (owed_by d.state) _ _ (sound.2 d (first_ended_is reading s.dialogues _ found).0)

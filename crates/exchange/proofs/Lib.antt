@@ -1,1 +1,2 @@
 mod Earliest
+mod Slots

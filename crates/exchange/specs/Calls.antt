@@ -1,27 +1,30 @@
 -- What each call gives, and what it leaves.
-use Rattle.std.specs.Prelude.{◌≡◌, ℕ, cond, List, length, Some, None, Ok, Err, Option, Result}
+use Rattle.std.specs.Prelude.{◌≡◌, ℕ, true, false, cond, List, length, Some, None, Ok, Err, Option, Result, ◌==◌}
+use Rattle.std.specs.Option.{ok_or}
 use Rattle.refusal.specs.declared.Refusal.{Refusal}
 use Rattle.refusal.specs.declared.Refusal.TheVariants.{Misdialled}
 use Rattle.apdu.specs.declared.apdus.Apdu.{Apdu}
 use Rattle.apdu.specs.declared.apdus.Body.TheVariants.{Invoke}
-use Rattle.apdu.specs.declared.apdus.ByOperation.TheVariants.{AuthWtmUser}
+use Rattle.apdu.specs.declared.apdus.ByOperation.TheVariants.{AuthWtmUser, GetWtatParam, WtatParamEnq, GetWtanParam}
+use Rattle.apdu.specs.Operations as operations
 use Rattle.users.specs.declared.UserNumber.{UserNumber}
 use Rattle.users.specs.Users.{user_number}
-use Rattle.apdu.specs.Encode.{encode}
+use Rattle.apdu.specs.Encode.{encode, is_right}
 use Rattle.apdu.specs.Fronts.{front}
 use Rattle.exchange.specs.declared.dialogue.Dialogue.{Dialogue}
-use Rattle.exchange.specs.declared.dialogue.OwnNumber.{OwnNumber}
-use Rattle.exchange.specs.declared.dialogue.State.TheVariants.{I}
-use Rattle.exchange.specs.declared.dialogue.Event.TheVariants.{Expiry}
-use Rattle.exchange.specs.declared.dialogue.Step.{Step}
-use Rattle.exchange.specs.declared.dialogue.Step.TheVariants.{Closes}
+use Rattle.exchange.specs.declared.dialogue.Notice.{Notice}
+use Rattle.exchange.specs.declared.dialogue.Notice.TheVariants as notice
+use Rattle.exchange.specs.declared.numbers.Asked.{Asked}
+use Rattle.exchange.specs.declared.numbers.OwnNumber.{OwnNumber}
+use Rattle.exchange.specs.declared.state.State.{State}
+use Rattle.exchange.specs.declared.state.State.TheVariants.{F, I, R, N}
 use Rattle.entries.specs.declared.link.Link.{Link}
 use Rattle.exchange.specs.declared.outcome.Done.{Done}
 use Rattle.exchange.specs.declared.outcome.Done.TheVariants.{Quiet, Sent, Reported}
 use Rattle.exchange.specs.declared.service.Service.{Service}
-use Rattle.exchange.specs.Dialogue.{stepped}
+use Rattle.exchange.specs.Dialogue.{expired}
 use Rattle.entries.specs.Link.{is_linked}
-use Rattle.exchange.specs.Service.{by, timely, ready, room, opened, read_at, closed}
+use Rattle.exchange.specs.Service.{by, timely, ready, room, asking, opened, read_at, closed}
 use Rattle.exchange.specs.Table.{first_ended}
 
 -- the answer, the exchange and the buffer at the return
@@ -42,35 +45,74 @@ checked s out check goes_on = by check goes_on (refused s out)
 abbrev pub sends : Service → ℕ → Apdu → List ℕ → After
 sends s peer a out = record { result = Ok (Sent peer (length (encode a))); service = s; buffer = front (encode a) out }
 
--- the user of an initiation whose peer is a link
-abbrev pub linked_user : Option UserNumber → List Link → ℕ → Result UserNumber Refusal
-linked_user None links peer = Err Misdialled
-linked_user (Some user) links peer = cond (is_linked links peer) (Ok user) (Err Misdialled)
+-- the user that some digits write
+abbrev pub user_of : List ℕ → Result UserNumber Refusal
+user_of digits = ok_or (user_number digits) Misdialled
 
+-- the user of an initiation, whose peer has to be a link
 abbrev pub dialled : List ℕ → ℕ → List Link → Result UserNumber Refusal
-dialled digits peer links = linked_user (user_number digits) links peer
+dialled digits peer links = by (user_of digits) (λ user. cond (is_linked links peer) (Ok user) (Err Misdialled)) Err
 
--- the invoke that asks a peer to authenticate a user, without a unit
-abbrev pub auth_invoke : ℕ → UserNumber → Apdu
-auth_invoke id user = record { id = id; body = Invoke (AuthWtmUser (record { user = user; unit = None })) }
+-- a dialogue opens in a state, and its invoke goes to a peer, both under the next number
+abbrev pub asks : Service → ℕ → ℕ → (Asked → State) → ℕ → operations.Invoke → List ℕ → After
+asks s reading place state peer invoke out =
+    sends (opened s reading place (state (asking s peer))) peer (record { id = s.next; body = Invoke invoke }) out
 
+-- a peer is asked to authenticate a user, without a unit
 abbrev pub initiated : Service → ℕ → List ℕ → ℕ → List Link → List ℕ → After
 initiated s reading digits peer links out =
     checked s out (ready s reading (length out)) λ _.
     checked s out (dialled digits peer links) λ user.
     checked s out (room s) λ place.
-    sends (opened s reading place (I peer (record { 0 = s.next }))) peer (auth_invoke s.next user) out
+    asks s reading place I peer (AuthWtmUser (record { user = user; unit = None })) out
+
+-- the server is asked for a unit, which a later invoke is to bring to the peer
+abbrev pub initiated_with_values : Service → ℕ → List ℕ → ℕ → List Link → List ℕ → After
+initiated_with_values s reading digits peer links out =
+    checked s out (ready s reading (length out)) λ _.
+    checked s out (dialled digits peer links) λ user.
+    checked s out (room s) λ place.
+    asks s reading place (λ asked. F asked user peer) s.fit.server (WtatParamEnq (record { user = user; challenge = None; computes = false })) out
+
+-- Home is asked for a unit, or for a session where this exchange can compute
+abbrev pub visitor_started : Service → ℕ → List ℕ → List ℕ → After
+visitor_started s reading digits out =
+    checked s out (ready s reading (length out)) λ _.
+    checked s out (user_of digits) λ user.
+    checked s out (room s) λ place.
+    asks s reading place (λ asked. R asked None s.fit.can_compute) s.fit.home (GetWtatParam (record { user = user; challenge = None; computes = s.fit.can_compute })) out
+
+-- a terminal's challenge has 8 bytes
+abbrev pub challenge_of : List ℕ → Result (List ℕ) Refusal
+challenge_of challenge = cond (length challenge == 8) (Ok challenge) (Err Misdialled)
+
+-- Home is asked for the response to the terminal's challenge under an algorithm, or for a session where this exchange can compute
+abbrev pub proof_requested : Service → ℕ → List ℕ → List ℕ → ℕ → List ℕ → After
+proof_requested s reading digits challenge number out =
+    checked s out (ready s reading (length out)) λ _.
+    checked s out (user_of digits) λ user.
+    checked s out (challenge_of challenge) λ c.
+    checked s out (room s) λ place.
+    asks s reading place (λ asked. N asked s.fit.can_compute c) s.fit.home
+    (GetWtanParam (record { user = user; computes = s.fit.can_compute; challenge = c; algorithm = number })) out
 
 -- nothing is sent or reported
 abbrev pub quiet : Service → ℕ → List ℕ → After
 quiet s reading out = record { result = Ok Quiet; service = read_at s reading; buffer = out }
 
-abbrev pub closes : Service → ℕ → OwnNumber → List ℕ → Step → After
-closes s place name out (Closes report) = record { result = Ok (Reported name report); service = closed s place; buffer = out }
+-- an APDU that goes to a peer is right for the writer
+abbrev pub CanTell : Notice → Type 0
+CanTell (notice.Report report) = Unit {0}
+CanTell (notice.Send peer apdu) = is_right apdu ≡ true
+
+-- a notice is told: a report leaves the buffer as it was
+abbrev pub told : Service → OwnNumber → Notice → List ℕ → After
+told s name (notice.Report report) out = record { result = Ok (Reported name report); service = s; buffer = out }
+told s name (notice.Send peer apdu) out = sends s peer apdu out
 
 abbrev pub clocked_by : Service → ℕ → List ℕ → Option (ℕ × Dialogue) → After
 clocked_by s reading out None = quiet s reading out
-clocked_by s reading out (Some (place, d)) = closes s place d.name out (stepped d Expiry)
+clocked_by s reading out (Some (place, d)) = told (closed s place) d.name (expired d.state) out
 
 abbrev pub clocked : Service → ℕ → List ℕ → After
 clocked s reading out = checked s out (timely s reading (length out)) (λ _. clocked_by s reading out (first_ended reading s.dialogues))

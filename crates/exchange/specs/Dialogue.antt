@@ -1,20 +1,138 @@
 -- The step of one dialogue.
+use Rattle.std.specs.Prelude.{ℕ, Bool, true, false, cond, not, ◌&&◌, ◌||◌, List, is_some, Some, None, Option, ◌==◌}
+use Rattle.std.specs.Str.{bytes_eq}
+use Rattle.wire.specs.declared.codes.ErrorCode.TheVariants.{ParamNotAvailable, TemporarilyUnavailable}
+use Rattle.wire.specs.declared.codes.Verdict.{Verdict}
+use Rattle.wire.specs.declared.codes.Verdict.TheVariants.{Correct, Incorrect}
+use Rattle.apdu.specs.declared.apdus.AuthUnit.{AuthUnit}
+use Rattle.apdu.specs.declared.apdus.WtatInfo.{WtatInfo}
+use Rattle.apdu.specs.declared.apdus.WtatInfo.TheVariants as info
+use Rattle.apdu.specs.declared.apdus.WtanParamRes.{WtanParamRes}
+use Rattle.apdu.specs.declared.apdus.WtanParamRes.TheVariants as proof
+use Rattle.apdu.specs.declared.apdus.ByOperation.TheVariants.{AuthWtmUser, GetWtatParam, WtatParamEnq, GetWtanParam, WtanParamEnq}
+use Rattle.apdu.specs.declared.apdus.Body.{Body}
+use Rattle.apdu.specs.declared.apdus.Body.TheVariants as body
+use Rattle.apdu.specs.Operations.{ReturnResult}
+use Rattle.algorithm.specs.Meaning.{Meaning}
+use Rattle.users.specs.declared.UserNumber.{UserNumber}
+use Rattle.exchange.specs.declared.fit_out.FitOut.{FitOut}
+use Rattle.exchange.specs.declared.numbers.Asked.{Asked}
+use Rattle.exchange.specs.declared.numbers.OwnNumber.{OwnNumber}
+use Rattle.exchange.specs.declared.numbers.Owed.{Owed}
+use Rattle.exchange.specs.declared.state.State.{State}
+use Rattle.exchange.specs.declared.state.State.TheVariants.{F, I, G, R, X, N, M}
 use Rattle.exchange.specs.declared.dialogue.Dialogue.{Dialogue}
-use Rattle.exchange.specs.declared.dialogue.State.{State}
-use Rattle.exchange.specs.declared.dialogue.State.TheVariants.{I}
 use Rattle.exchange.specs.declared.dialogue.Event.{Event}
 use Rattle.exchange.specs.declared.dialogue.Event.TheVariants as event
+use Rattle.exchange.specs.declared.dialogue.Notice.{Notice}
+use Rattle.exchange.specs.declared.dialogue.Notice.TheVariants as notice
 use Rattle.exchange.specs.declared.dialogue.Step.{Step}
-use Rattle.exchange.specs.declared.dialogue.Step.TheVariants.{Closes}
-use Rattle.exchange.specs.declared.fit_out.Timer.{Timer}
-use Rattle.exchange.specs.declared.fit_out.Timer.TheVariants.{T1}
+use Rattle.exchange.specs.declared.dialogue.Step.TheVariants.{Stray, GoesOn, AsksAgain, Closes}
 use Rattle.exchange.specs.declared.outcome.Cause.TheVariants as cause
-use Rattle.exchange.specs.declared.outcome.Report.TheVariants.{Failure}
+use Rattle.exchange.specs.declared.outcome.Report.{Report}
+use Rattle.exchange.specs.declared.outcome.Report.TheVariants as report
+use Rattle.exchange.specs.State.{timer_of, end_of, owed_by, asked_by}
 
--- the timer that runs in a state
-abbrev pub timer_of : State → Timer
-timer_of (I peer invoke) = T1
+-- an APDU goes to a peer
+abbrev pub sent : ℕ → ℕ → Body → Notice
+sent peer id b = notice.Send peer (record { id = id; body = b })
 
--- state and event together decide the step
-abbrev pub stepped : Dialogue → Event → Step
-stepped d event.Expiry = Closes (Failure (cause.Expiry (timer_of d.state)))
+-- the answer to the peer that is owed it
+abbrev pub answer : Owed → Body → Notice
+answer owed b = sent owed.peer owed.id.0 b
+
+-- the invoke that asks a peer to authenticate a user, with a unit
+abbrev pub authenticate : Asked → UserNumber → AuthUnit → Notice
+authenticate asked user unit = sent asked.peer asked.id.0 (body.Invoke (AuthWtmUser (record { user = user; unit = Some unit })))
+
+-- what is owed gets an answer, and where nothing is owed a report is made
+abbrev pub settled : Option Owed → Body → Report → Notice
+settled None b r = notice.Report r
+settled (Some owed) b r = answer owed b
+
+-- the timer has ended: what is owed gets error temporarilyUnavailable, otherwise the failure is reported
+abbrev pub expired : State → Notice
+expired s = settled (owed_by s) (body.ReturnError TemporarilyUnavailable) (report.Failure (cause.Expiry (timer_of s)))
+
+-- a response is correct where it is the expected one
+abbrev pub verdict_on : List ℕ → List ℕ → Verdict
+verdict_on response expected = cond (bytes_eq response expected) Correct Incorrect
+
+-- a result brings a session, and no unit
+abbrev pub is_session : WtatInfo → Bool
+is_session (info.Unit unit) = false
+is_session (info.Session session) = true
+
+-- a result brings a session, and no response
+abbrev pub is_proof_session : WtanParamRes → Bool
+is_proof_session (proof.Session session) = true
+is_proof_session (proof.Response response) = false
+
+-- nothing awaits the event, and the dialogue is as it was
+abbrev pub stray : Dialogue → Step × Dialogue
+stray d = (Stray, d)
+
+-- the dialogue closes, and a notice is told
+abbrev pub closes : Dialogue → Notice → Step × Dialogue
+closes d n = (Closes n, d)
+
+-- a dialogue goes on in a state, whose timer starts
+abbrev pub goes_on : FitOut → ℕ → Dialogue → State → Dialogue
+goes_on fit reading d s = record { name = d.name; opened = d.opened; ends = end_of fit reading s; state = s }
+
+-- on to the terminal, which is given a challenge, and from which a response is expected
+abbrev pub challenged : FitOut → ℕ → Dialogue → Option Owed → List ℕ → List ℕ → Step × Dialogue
+challenged fit reading d owed challenge expected = (GoesOn (notice.Report (report.Challenge challenge)), goes_on fit reading d (X owed expected))
+
+module _ (m : Meaning) (fit : FitOut) (reading : ℕ) (next : OwnNumber) (d : Dialogue) where
+  -- in F: a unit goes to the peer of the initiation, in another invoke under the next number
+  abbrev pub in_f : UserNumber → Asked → WtatInfo → Step × Dialogue
+  in_f user asked (info.Unit unit) = (AsksAgain (authenticate asked user unit), goes_on fit reading d (I asked))
+  in_f user asked (info.Session session) = stray d
+
+  -- in R: a unit is taken under any algorithm, a session only where it was asked for, and under our own
+  abbrev pub in_r : Option Owed → Bool → List ℕ → ℕ → WtatInfo → Step × Dialogue
+  in_r owed computes drawn number (info.Unit unit) = challenged fit reading d owed unit.challenge unit.response
+  in_r owed computes drawn number (info.Session session) =
+      cond (computes && (number == m.number)) (challenged fit reading d owed drawn (m.response session.key drawn)) (stray d)
+
+  -- in N: the response, or the one that the session gives, where it was asked for
+  abbrev pub in_n : Bool → List ℕ → WtanParamRes → Step × Dialogue
+  in_n computes challenge (proof.Response response) = closes d (notice.Report (report.Response response))
+  in_n computes challenge (proof.Session session) =
+      cond computes (closes d (notice.Report (report.Response (m.response session.key challenge)))) (stray d)
+
+  -- in G and M: the same fields go to the peer that is owed them, a session only where it was asked for
+  abbrev pub passed_on : Owed → Bool → ReturnResult → Step × Dialogue
+  passed_on owed awaited r = cond awaited (closes d (answer owed (body.ReturnResult r))) (stray d)
+
+  -- in X: the terminal's verdict
+  abbrev pub judged : Option Owed → Verdict → Step × Dialogue
+  judged owed v = closes d (settled owed (body.ReturnResult (AuthWtmUser v)) (report.Verdict v))
+
+  -- an answer that is no result: what is owed gets an error, otherwise the failure is reported
+  abbrev pub failed : State → Body → Report → Step × Dialogue
+  failed s b r = cond (is_some (asked_by s)) (closes d (settled (owed_by s) b r)) (stray d)
+
+  -- a result, and the challenge that was drawn for it
+  abbrev pub resulted : State → ReturnResult → List ℕ → Step × Dialogue
+  resulted (F asked user peer) (WtatParamEnq r) drawn = in_f user (record { peer = peer; id = next }) r.info
+  resulted (I asked) (AuthWtmUser v) drawn = closes d (notice.Report (report.Verdict v))
+  resulted (G asked owed computes) (WtatParamEnq r) drawn = passed_on owed (computes || not (is_session r.info)) (GetWtatParam r)
+  resulted (R asked owed computes) (GetWtatParam r) drawn = in_r owed computes drawn r.algorithm r.info
+  resulted (N asked computes challenge) (GetWtanParam r) drawn = in_n computes challenge r
+  resulted (M asked owed computes) (WtanParamEnq r) drawn = passed_on owed (computes || not (is_proof_session r)) (GetWtanParam r)
+  resulted s r drawn = stray d
+
+  -- the terminal's reply
+  abbrev pub replied : State → List ℕ → Step × Dialogue
+  replied (X owed expected) response = judged owed (verdict_on response expected)
+  replied s response = stray d
+
+  -- state and event together decide the step
+  abbrev pub stepped : Event → Step × Dialogue
+  stepped (event.Result r drawn) = resulted d.state r drawn
+  stepped (event.Error e) = failed d.state (body.ReturnError e) (report.Failure (cause.Error e))
+  stepped (event.Reject problem) = failed d.state (body.ReturnError ParamNotAvailable) (report.Failure (cause.Reject problem))
+  stepped (event.Reply response) = replied d.state response
+  stepped event.Expiry = closes d (expired d.state)

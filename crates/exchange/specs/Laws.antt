@@ -1,15 +1,13 @@
 -- Which dialogue the clock closes, said of the whole table.
-use Rattle.std.specs.Prelude.{◌≡◌, ℕ, ◌<◌, ◌≤◌, ◌⊎◌, List, [], ◌∷◌, Some, Ok, Err, Option, Result}
+use Rattle.std.specs.Prelude.{◌≡◌, ℕ, ◌<◌, ◌≤◌, ◌⊎◌, List, Some, None, Ok, Err, Option, Result}
 use Rattle.refusal.specs.declared.Refusal.{Refusal}
+use Rattle.exchange.specs.declared.numbers.Owed.{Owed}
 use Rattle.exchange.specs.declared.dialogue.Dialogue.{Dialogue}
 use Rattle.exchange.specs.declared.outcome.Done.{Done}
 use Rattle.exchange.specs.declared.outcome.Done.TheVariants.{Quiet, Sent, Reported}
 use Rattle.exchange.specs.declared.service.Service.{Service}
-
--- a dialogue stands in one of the places
-abbrev pub Has : Dialogue → List (Option Dialogue) → Type 0
-Has d [] = ⊥
-Has d (s ∷ ss) = (s ≡ Some d) ⊎ Has d ss
+use Rattle.exchange.specs.State.{owed_by}
+use Rattle.exchange.specs.Table.{Has}
 
 -- d's timer ends before e's, or with it where d's name is no higher
 abbrev pub Precedes : Dialogue → Dialogue → Type 0
@@ -23,10 +21,15 @@ NoneEnded reading slots = (e : Dialogue) → Has e slots → reading < e.ends
 abbrev pub EndsFirst : ℕ → List (Option Dialogue) → Dialogue → Type 0
 EndsFirst reading slots d = Has d slots × (d.ends ≤ reading) × ((e : Dialogue) → Has e slots → Precedes d e)
 
--- clock reports the dialogue whose timer ends first, the lowest name on a tie, once that timer has ended;
--- it is quiet only where no timer has ended, and it sends nothing
+-- what clock tells when it closes d: what is owed is answered, and otherwise d is reported
+abbrev pub Tells : Dialogue → Done → Type 0
+Tells d Quiet = ⊥
+Tells d (Sent peer size) = (owed : Owed) × (owed_by d.state ≡ Some owed) × (owed.peer ≡ peer)
+Tells d (Reported name report) = (owed_by d.state ≡ None) × (d.name ≡ name)
+
+-- clock closes the dialogue whose timer ends first, the lowest name on a tie, once that timer has ended;
+-- it is quiet only where no timer has ended
 abbrev pub Earliest : Service → ℕ → Result Done Refusal → Type 0
 Earliest s reading (Err n) = Unit {0}
 Earliest s reading (Ok Quiet) = NoneEnded reading s.dialogues
-Earliest s reading (Ok (Sent peer size)) = ⊥
-Earliest s reading (Ok (Reported name report)) = (d : Dialogue) × (d.name ≡ name) × EndsFirst reading s.dialogues d
+Earliest s reading (Ok done) = (d : Dialogue) × Tells d done × EndsFirst reading s.dialogues d

@@ -1,4 +1,5 @@
 pub mod FitOut
+pub mod State
 pub mod Dialogue
 pub mod Table
 pub mod Service

@@ -1,16 +1,22 @@
 -- What an exchange in service keeps, and the checks that its calls share.
-use Rattle.std.specs.Prelude.{◌≡◌, ℕ, ◌+◌, ◌^◌, ◌≤◌, cond, ◌||◌, length, Some, None, Ok, Err, Option, Result, nat_lt, slice_set}
+use Rattle.std.specs.Prelude.{◌≡◌, ℕ, ◌+◌, ◌^◌, ◌≤◌, cond, ◌||◌, length, Some, None, Ok, Err, Result, nat_lt, slice_set}
+use Rattle.std.specs.Option.{ForSome, ok_or}
 use Rattle.refusal.specs.declared.Refusal.{Refusal}
 use Rattle.refusal.specs.declared.Refusal.TheVariants.{ShortSheet, ClockBack, TimerDue, Full, Spent}
-use Rattle.exchange.specs.declared.dialogue.State.{State}
+use Rattle.exchange.specs.declared.dialogue.Dialogue.{Dialogue}
+use Rattle.exchange.specs.declared.numbers.Asked.{Asked}
+use Rattle.exchange.specs.declared.state.State.{State}
 use Rattle.exchange.specs.declared.service.Service.{Service}
-use Rattle.exchange.specs.FitOut.{duration}
-use Rattle.exchange.specs.Dialogue.{timer_of}
-use Rattle.exchange.specs.Table.{due, free_place}
+use Rattle.exchange.specs.State.{end_of, owed_by}
+use Rattle.exchange.specs.Table.{Has, due, free_place}
 
--- there are 32 places for dialogues, and numbers begin at 1
+-- what is owed can be answered: ids begin at 1
+abbrev pub CanAnswer : State → Type 0
+CanAnswer s = ForSome (owed_by s) (λ owed. 1 ≤ owed.id.0)
+
+-- there are 32 places for dialogues, numbers begin at 1, and what is owed can be answered
 abbrev pub Sound : Service → Type 0
-Sound s = (length s.dialogues ≡ 32) × (1 ≤ s.next)
+Sound s = (length s.dialogues ≡ 32) × (1 ≤ s.next) × ((d : Dialogue) → Has d s.dialogues → CanAnswer d.state)
 
 -- the buffer takes an APDU, and the reading is no higher than readings go
 abbrev pub Timely : ℕ → ℕ → Type 0
@@ -30,12 +36,8 @@ abbrev pub ready : Service → ℕ → ℕ → Result (Unit {0}) Refusal
 ready s reading size = by (timely s reading size) (λ _. cond (due reading s.dialogues) (Err TimerDue) (Ok tt)) Err
 
 -- the place that a dialogue takes, if there is a number for it
-abbrev pub numbered : ℕ → Option ℕ → Result ℕ Refusal
-numbered next None = Err Full
-numbered next (Some place) = cond (nat_lt 60000 next) (Err Spent) (Ok place)
-
 abbrev pub room : Service → Result ℕ Refusal
-room s = numbered s.next (free_place s.dialogues)
+room s = by (ok_or (free_place s.dialogues) Full) (λ place. cond (nat_lt 60000 s.next) (Err Spent) (Ok place)) Err
 
 -- a dialogue opens under the next number, and the reading is the last one
 abbrev pub opened : Service → ℕ → ℕ → State → Service
@@ -43,7 +45,7 @@ opened s reading place state = record {
   fit = s.fit;
   last = reading;
   next = s.next + 1;
-  dialogues = slice_set s.dialogues place (Some (record { name = record { 0 = s.next }; ends = reading + duration s.fit (timer_of state); state = state }));
+  dialogues = slice_set s.dialogues place (Some (record { name = record { 0 = s.next }; opened = reading; ends = end_of s.fit reading state; state = state }));
 }
 
 -- the reading becomes the last one
@@ -53,3 +55,7 @@ read_at s reading = record { fit = s.fit; last = reading; next = s.next; dialogu
 -- the dialogue at a place closes
 abbrev pub closed : Service → ℕ → Service
 closed s place = record { fit = s.fit; last = s.last; next = s.next; dialogues = slice_set s.dialogues place None }
+
+-- the invoke to a peer that the next dialogue would send
+abbrev pub asking : Service → ℕ → Asked
+asking s peer = record { peer = peer; id = record { 0 = s.next } }

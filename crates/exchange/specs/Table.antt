@@ -1,7 +1,12 @@
 -- The places for dialogues.
-use Rattle.std.specs.Prelude.{ℕ, ◌+◌, Bool, true, false, cond, ◌&&◌, ◌||◌, List, [], ◌∷◌, Some, None, Option, ◌==◌, nat_le, nat_lt, position}
+use Rattle.std.specs.Prelude.{◌≡◌, ℕ, ◌+◌, ◌⊎◌, Bool, true, false, cond, ◌&&◌, ◌||◌, List, [], ◌∷◌, Some, None, Option, ◌==◌, nat_le, nat_lt, position}
 use Rattle.exchange.specs.declared.dialogue.Dialogue.{Dialogue}
 use Rattle.std.specs.List.{list_any}
+
+-- a dialogue stands in one of the places
+abbrev pub Has : Dialogue → List (Option Dialogue) → Type 0
+Has d [] = ⊥
+Has d (s ∷ ss) = (s ≡ Some d) ⊎ Has d ss
 
 -- a dialogue's timer ends at or before the reading
 abbrev pub ends_by : ℕ → Option Dialogue → Bool

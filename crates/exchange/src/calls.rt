@@ -1,22 +1,33 @@
 // The calls of an exchange in service.
-ghost use Rattle.std.specs.Prelude.{◌≡◌, ◌≤◌, true, length, IfOk};
-ghost use Rattle.apdu.specs.Encode.{encode, is_right};
+ghost use Rattle.std.specs.Prelude.{◌≡◌, ◌^◌, ◌<◌, ◌≤◌, true, length, IfOk, Ok};
+ghost use Rattle.apdu.specs.Encode.{encode, is_right, invoke_right};
 ghost use Rattle.users.specs.Users.{is_user};
 ghost use Rattle.apdu.specs.Fronts.{front};
 ghost use Rattle.directory.specs.Contents.{contents};
-ghost use Rattle.exchange.specs.Calls.{dialled, initiated, clocked, Unchanged};
+ghost use Rattle.exchange.specs.Service.{CanAnswer, asking, closed};
+ghost use Rattle.exchange.specs.Calls.{user_of, dialled, challenge_of, asks, CanTell, told, initiated, initiated_with_values, visitor_started, proof_requested, clocked, Unchanged};
 ghost use Rattle.exchange.specs.Laws.{Earliest};
 
-use crate::dialogue::{Event, OwnNumber, State, Step};
+use crate::dialogue::{Event, Notice, Step};
 use crate::in_service::Exchange;
+use crate::numbers::{Asked, OwnNumber};
 use crate::outcome::Done;
-use apdu::{Apdu, AuthWtmArg, Body, Invoke};
+use crate::state::State;
+use algorithm::Algorithm;
+use apdu::{Apdu, AuthWtmArg, Body, Challenge, Invoke, UserNumber, WtanParamArg, WtatParamArg};
 use directory::Directory;
 use entries::{Link, is_link};
 use refusal::Refusal;
-use users::UserNumber;
 
-// The user and the peer of an initiation.
+// The user of a request.
+fn check_user(digits: &[u8]) -> Result<UserNumber, Refusal>
+    ensures value { result ≡ user_of digits.now }
+    ensures lawful { IfOk result (λ u. is_user u ≡ true) }
+{
+    UserNumber::from_digits(digits).ok_or(Refusal::Misdialled)
+}
+
+// The user of an initiation, whose peer has to be a link.
 fn check_dialled(
     digits: &[u8],
     peer: u8,
@@ -25,11 +36,18 @@ fn check_dialled(
     ensures value { result ≡ dialled digits.now peer (contents links.now) }
     ensures lawful { IfOk result (λ u. is_user u ≡ true) }
 {
-    let user = UserNumber::from_digits(digits).ok_or(Refusal::Misdialled)?;
+    let user = check_user(digits)?;
     if !is_link(links, peer) {
         return Err(Refusal::Misdialled);
     }
     Ok(user)
+}
+
+// A terminal's challenge.
+fn check_challenge(challenge: &[u8]) -> Result<Challenge, Refusal>
+    ensures { result ≡ challenge_of challenge.now }
+{
+    challenge.try_into().or(Err(Refusal::Misdialled))
 }
 
 // Writes an APDU to the front of the buffer.
@@ -43,6 +61,58 @@ fn put_apdu(apdu: &Apdu, out: &mut [u8]) -> usize
 }
 
 impl Exchange {
+    // The invoke to a peer that the next dialogue would send.
+    fn asking(&self, peer: u8) -> Asked
+        ensures { result ≡ asking self.now.service peer }
+    {
+        Asked {
+            peer,
+            id: OwnNumber(self.service.next),
+        }
+    }
+
+    // Opens a dialogue under the next number and sends its invoke to a peer.
+    fn ask(
+        &mut self,
+        reading: u64,
+        place: usize,
+        state: State,
+        peer: u8,
+        invoke: Invoke,
+        out: &mut [u8],
+    ) -> Done
+        requires place { place < 32 }
+        requires time { reading ≤ 2 ^ 40 }
+        requires number { self.old.service.next ≤ 60000 }
+        requires answers { CanAnswer state }
+        requires size { 64 ≤ length out.old }
+        requires right { invoke_right invoke ≡ true }
+        ensures { record { result = Ok result; service = self.new.service; buffer = out.new } ≡ asks self.old.service reading place (λ asked. state) peer invoke out.old }
+    {
+        let id = self.service.next;
+        self.open_dialogue(reading, place, state);
+        let body = Body::Invoke(invoke);
+        let size = put_apdu(&Apdu { id, body }, out);
+        Done::Sent { peer, size }
+    }
+
+    // Closes the dialogue at a place, and tells what its step came to.
+    fn close(&mut self, place: usize, name: OwnNumber, notice: Notice, out: &mut [u8]) -> Done
+        requires place { place < 32 }
+        requires size { 64 ≤ length out.old }
+        requires right { CanTell notice }
+        ensures { record { result = Ok result; service = self.new.service; buffer = out.new } ≡ told (closed self.old.service place) name notice out.old }
+    {
+        self.close_dialogue(place);
+        match notice {
+            Notice::Report(report) => Done::Reported { name, report },
+            Notice::Send { peer, apdu } => {
+                let size = put_apdu(&apdu, out);
+                Done::Sent { peer, size }
+            }
+        }
+    }
+
     // Asks a peer to authenticate a user.
     pub fn plain_initiation(
         &mut self,
@@ -58,45 +128,124 @@ impl Exchange {
         self.service.check_ready(reading, out.len())?;
         let user = check_dialled(digits, peer, links)?;
         let place = self.service.check_room()?;
-        let id = self.service.next;
-        self.open_dialogue(
-            reading,
-            place,
-            State::I {
-                peer,
-                invoke: OwnNumber(id),
-            },
-        );
-        let size = put_apdu(
-            &Apdu {
-                id,
-                body: Body::Invoke(Invoke::AuthWtmUser(AuthWtmArg { user, unit: None })),
-            },
-            out,
-        );
-        Ok(Done::Sent { peer, size })
+        let asked = self.asking(peer);
+        let state = State::I { asked };
+        let invoke = Invoke::AuthWtmUser(AuthWtmArg { user, unit: None });
+        Ok(self.ask(reading, place, state, peer, invoke, out))
     }
 
-    // Closes the dialogue whose timer ends first, if it has ended by this reading; else notes the reading.
-    pub fn clock(&mut self, reading: u64, out: &mut [u8]) -> Result<Done, Refusal>
+    // Asks the server for a unit, which a later invoke is to bring to a peer.
+    pub fn initiation_with_values(
+        &mut self,
+        reading: u64,
+        digits: &[u8],
+        peer: u8,
+        links: &Directory<'_, Link>,
+        out: &mut [u8],
+    ) -> Result<Done, Refusal>
+        ensures value { record { result = result; service = self.new.service; buffer = out.new } ≡ initiated_with_values self.old.service reading digits.now peer (contents links.now) out.old }
+        ensures unchanged { Unchanged result self.old.service self.new.service out.old out.new }
+    {
+        self.service.check_ready(reading, out.len())?;
+        let user = check_dialled(digits, peer, links)?;
+        let place = self.service.check_room()?;
+        let server = self.service.fit.server;
+        let asked = self.asking(server);
+        let state = State::F { asked, user, peer };
+        let invoke = Invoke::WtatParamEnq(WtatParamArg {
+            user,
+            challenge: None,
+            computes: false,
+        });
+        Ok(self.ask(reading, place, state, server, invoke, out))
+    }
+
+    // Begins to authenticate a user who is visiting: asks Home for a unit, or for a session where we can compute.
+    pub fn visitor_start(
+        &mut self,
+        reading: u64,
+        digits: &[u8],
+        out: &mut [u8],
+    ) -> Result<Done, Refusal>
+        ensures value { record { result = result; service = self.new.service; buffer = out.new } ≡ visitor_started self.old.service reading digits.now out.old }
+        ensures unchanged { Unchanged result self.old.service self.new.service out.old out.new }
+    {
+        self.service.check_ready(reading, out.len())?;
+        let user = check_user(digits)?;
+        let place = self.service.check_room()?;
+        let home = self.service.fit.home;
+        let computes = self.service.fit.can_compute;
+        let asked = self.asking(home);
+        let state = State::R {
+            asked,
+            owed: None,
+            computes,
+        };
+        let invoke = Invoke::GetWtatParam(WtatParamArg {
+            user,
+            challenge: None,
+            computes,
+        });
+        Ok(self.ask(reading, place, state, home, invoke, out))
+    }
+
+    // Proves the network to a user's terminal: asks Home for the response to the terminal's challenge, or for a session
+    // where we can compute.
+    pub fn network_proof<A: Algorithm>(
+        &mut self,
+        reading: u64,
+        digits: &[u8],
+        challenge: &[u8],
+        algorithm: &A,
+        out: &mut [u8],
+    ) -> Result<Done, Refusal>
+        ensures value { record { result = result; service = self.new.service; buffer = out.new } ≡ proof_requested self.old.service reading digits.now challenge.now (A.meaning algorithm.now).number out.old }
+        ensures unchanged { Unchanged result self.old.service self.new.service out.old out.new }
+    {
+        self.service.check_ready(reading, out.len())?;
+        let user = check_user(digits)?;
+        let challenge = check_challenge(challenge)?;
+        let place = self.service.check_room()?;
+        let home = self.service.fit.home;
+        let computes = self.service.fit.can_compute;
+        let asked = self.asking(home);
+        let state = State::N {
+            asked,
+            computes,
+            challenge,
+        };
+        let invoke = Invoke::GetWtanParam(WtanParamArg {
+            user,
+            computes,
+            challenge,
+            algorithm: algorithm.number(),
+        });
+        Ok(self.ask(reading, place, state, home, invoke, out))
+    }
+
+    // Closes the dialogue whose timer ends first, if it has ended by this reading: what it owes gets an error, otherwise its
+    // failure is reported. Else notes the reading. The algorithm is for the step, which asks it nothing here.
+    pub fn clock<A: Algorithm>(
+        &mut self,
+        reading: u64,
+        algorithm: &mut A,
+        out: &mut [u8],
+    ) -> Result<Done, Refusal>
         ensures value { record { result = result; service = self.new.service; buffer = out.new } ≡ clocked self.old.service reading out.old }
+        ensures same { A.meaning algorithm.new ≡ A.meaning algorithm.old }
         ensures unchanged { Unchanged result self.old.service self.new.service out.old out.new }
         ensures earliest { Earliest self.old.service reading result }
     {
         self.service.check_time(reading, out.len())?;
-        match self.service.first_to_end(reading) {
-            Some((place, dialogue)) => {
-                let Step::Closes(report) = dialogue.step(Event::Expiry);
-                self.service.dialogues[place] = None;
-                Ok(Done::Reported {
-                    name: dialogue.name,
-                    report,
-                })
-            }
-            None => {
-                self.service.last = reading;
-                Ok(Done::Quiet)
-            }
-        }
+        let Some((place, mut dialogue)) = self.service.first_to_end(reading) else {
+            self.service.last = reading;
+            return Ok(Done::Quiet);
+        };
+        let next = OwnNumber(self.service.next);
+        let step = dialogue.step(Event::Expiry, reading, next, &self.service.fit, algorithm);
+        let Step::Closes(notice) = step else {
+            unreachable!()
+        };
+        Ok(self.close(place, dialogue.name, notice, out))
     }
 }

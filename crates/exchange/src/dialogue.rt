@@ -1,24 +1,25 @@
 // A dialogue and its step.
-ghost use Rattle.std.specs.Prelude.{◌≡◌, Some};
+ghost use Rattle.std.specs.Prelude.{◌≡◌, ◌^◌, ◌≤◌, Some};
 ghost use Rattle.exchange.specs.Table.{ends_by, earlier};
-ghost use Rattle.exchange.specs.Dialogue.{timer_of, stepped};
+ghost use Rattle.exchange.specs.Dialogue.{sent, answer, authenticate, settled, verdict_on, goes_on, challenged, stepped};
 
-use crate::fit_out::Timer;
+use crate::fit_out::FitOut;
+use crate::numbers::{Asked, Owed, OwnNumber};
 use crate::outcome::{Cause, Report};
-
-// A number of this exchange: a dialogue's name, and the id of an invoke that we send.
-#[derive(Clone, Copy, PartialEq, Eq, PartialOrd, Ord)]
-pub struct OwnNumber(pub u16);
-
-#[derive(Clone, Copy)]
-pub enum State {
-    // Awaits the result of authWtmUser from this peer, under the id of our invoke.
-    I { peer: u8, invoke: OwnNumber },
-}
+use crate::results::{is_proof_session, is_session};
+use crate::state::State;
+use algorithm::Algorithm;
+use apdu::{
+    Apdu, AuthUnit, AuthWtmArg, Body, Challenge, Invoke, Response, ReturnResult, UserNumber,
+    WtanParamRes, WtatInfo, WtatParamRes,
+};
+use wire::{ErrorCode, Verdict};
 
 #[derive(Clone, Copy)]
 pub struct Dialogue {
     pub name: OwnNumber,
+    // The reading at which it was opened.
+    pub opened: u64,
     // The reading at which its timer ends.
     pub ends: u64,
     pub state: State,
@@ -26,25 +27,87 @@ pub struct Dialogue {
 
 #[derive(Clone, Copy)]
 pub(crate) enum Event {
+    // The result of our invoke, and the challenge that was drawn for it.
+    Result(ReturnResult, Challenge),
+    Error(ErrorCode),
+    // With its problem.
+    Reject(u8),
+    // What the terminal replied to its challenge.
+    Reply(Response),
     // The dialogue's timer has ended.
     Expiry,
+}
+
+// What a dialogue's step tells.
+#[derive(Clone, Copy)]
+pub(crate) enum Notice {
+    // To the host.
+    Report(Report),
+    // To a peer.
+    Send { peer: u8, apdu: Apdu },
 }
 
 // What a dialogue's step comes to.
 #[derive(Clone, Copy)]
 pub(crate) enum Step {
-    // The dialogue closes, and this is reported.
-    Closes(Report),
+    // Nothing awaits the event, and the dialogue is as it was.
+    Stray,
+    // The dialogue goes on.
+    GoesOn(Notice),
+    // The dialogue goes on, and has taken the next number for another invoke.
+    AsksAgain(Notice),
+    Closes(Notice),
 }
 
-impl State {
-    // The timer that runs in this state.
-    pub(crate) fn timer(&self) -> Timer
-        ensures { result ≡ timer_of self.now }
+impl Notice {
+    fn send(peer: u8, id: u16, body: Body) -> Notice
+        ensures { result ≡ sent peer id body }
     {
-        match self {
-            State::I { .. } => Timer::T1,
+        Notice::Send {
+            peer,
+            apdu: Apdu { id, body },
         }
+    }
+}
+
+impl Owed {
+    // The answer to the peer that is owed it.
+    fn answer(&self, body: Body) -> Notice
+        ensures { result ≡ answer self.now body }
+    {
+        Notice::send(self.peer, self.id.0, body)
+    }
+}
+
+impl Asked {
+    // The invoke that asks a peer to authenticate a user, with a unit.
+    fn authenticate(&self, user: UserNumber, unit: AuthUnit) -> Notice
+        ensures { result ≡ authenticate self.now user unit }
+    {
+        let unit = Some(unit);
+        let body = Body::Invoke(Invoke::AuthWtmUser(AuthWtmArg { user, unit }));
+        Notice::send(self.peer, self.id.0, body)
+    }
+}
+
+// What is owed gets an answer, and where nothing is owed a report is made.
+fn settle(owed: Option<Owed>, body: Body, report: Report) -> Notice
+    ensures { result ≡ settled owed body report }
+{
+    match owed {
+        Some(owed) => owed.answer(body),
+        None => Notice::Report(report),
+    }
+}
+
+// Whether a response is the expected one.
+fn verdict_on(response: Response, expected: Response) -> Verdict
+    ensures { result ≡ verdict_on response expected }
+{
+    if response == expected {
+        Verdict::Correct
+    } else {
+        Verdict::Incorrect
     }
 }
 
@@ -63,12 +126,143 @@ impl Dialogue {
         (self.ends, self.name) < (other.ends, other.name)
     }
 
-    // State and event together decide the step, in one `match`: a rule of the project.
-    pub(crate) fn step(&self, event: Event) -> Step
-        ensures { result ≡ stepped self.now event }
+    // Goes on in a state, whose timer starts.
+    fn go_on(&mut self, state: State, reading: u64, fit: &FitOut)
+        requires time { reading ≤ 2 ^ 40 }
+        ensures { self.new ≡ goes_on fit.now reading self.old state }
+    {
+        self.ends = state.end(reading, fit);
+        self.state = state;
+    }
+
+    // Goes on to the terminal, which is given the unit's challenge.
+    fn go_on_to_terminal(
+        &mut self,
+        owed: Option<Owed>,
+        unit: AuthUnit,
+        reading: u64,
+        fit: &FitOut,
+    ) -> Step
+        requires time { reading ≤ 2 ^ 40 }
+        ensures { (result, self.new) ≡ challenged fit.now reading self.old owed unit.challenge unit.response }
+    {
+        let expected = unit.response;
+        self.go_on(State::X { owed, expected }, reading, fit);
+        Step::GoesOn(Notice::Report(Report::Challenge(unit.challenge)))
+    }
+
+    // State and event together decide the step, in one `match`: a rule of the project. `next` is the next number.
+    pub(crate) fn step<A: Algorithm>(
+        &mut self,
+        event: Event,
+        reading: u64,
+        next: OwnNumber,
+        fit: &FitOut,
+        algorithm: &mut A,
+    ) -> Step
+        requires time { reading ≤ 2 ^ 40 }
+        ensures value { (result, self.new) ≡ stepped (A.meaning algorithm.old) fit.now reading next self.old event }
+        ensures same { A.meaning algorithm.new ≡ A.meaning algorithm.old }
     {
         match (self.state, event) {
-            (state, Event::Expiry) => Step::Closes(Report::Failure(Cause::Expiry(state.timer()))),
+            (
+                State::F { user, peer, .. },
+                Event::Result(
+                    ReturnResult::WtatParamEnq(
+                        WtatParamRes {
+                            info: WtatInfo::Unit(unit),
+                            ..
+                        },
+                    ),
+                    _,
+                ),
+            ) => {
+                let asked = Asked { peer, id: next };
+                self.go_on(State::I { asked }, reading, fit);
+                Step::AsksAgain(asked.authenticate(user, unit))
+            }
+            (State::I { .. }, Event::Result(ReturnResult::AuthWtmUser(verdict), _)) => {
+                Step::Closes(Notice::Report(Report::Verdict(verdict)))
+            }
+            (State::G { owed, computes, .. }, Event::Result(ReturnResult::WtatParamEnq(result), _))
+                if computes || !is_session(result.info) => {
+                Step::Closes(owed.answer(Body::ReturnResult(ReturnResult::GetWtatParam(result))))
+            }
+            (
+                State::R { owed, .. },
+                Event::Result(
+                    ReturnResult::GetWtatParam(
+                        WtatParamRes {
+                            info: WtatInfo::Unit(unit),
+                            ..
+                        },
+                    ),
+                    _,
+                ),
+            ) => { self.go_on_to_terminal(owed, unit, reading, fit) }
+            (
+                State::R {
+                    owed,
+                    computes: true,
+                    ..
+                },
+                Event::Result(
+                    ReturnResult::GetWtatParam(
+                        WtatParamRes {
+                            algorithm: number,
+                            info: WtatInfo::Session(session),
+                        },
+                    ),
+                    drawn,
+                ),
+            ) if number == algorithm.number() => {
+                let response = algorithm.response(&session.key, &drawn);
+                let unit = AuthUnit {
+                    challenge: drawn,
+                    response,
+                };
+                self.go_on_to_terminal(owed, unit, reading, fit)
+            }
+            (State::X { owed, expected }, Event::Reply(response)) => {
+                let verdict = verdict_on(response, expected);
+                let body = Body::ReturnResult(ReturnResult::AuthWtmUser(verdict));
+                Step::Closes(settle(owed, body, Report::Verdict(verdict)))
+            }
+            (
+                State::N { .. },
+                Event::Result(ReturnResult::GetWtanParam(WtanParamRes::Response(response)), _),
+            ) => { Step::Closes(Notice::Report(Report::Response(response))) }
+            (
+                State::N {
+                    computes: true,
+                    challenge,
+                    ..
+                },
+                Event::Result(ReturnResult::GetWtanParam(WtanParamRes::Session(session)), _),
+            ) => {
+                let response = algorithm.response(&session.key, &challenge);
+                Step::Closes(Notice::Report(Report::Response(response)))
+            }
+            (State::M { owed, computes, .. }, Event::Result(ReturnResult::WtanParamEnq(result), _))
+                if computes || !is_proof_session(result) => {
+                Step::Closes(owed.answer(Body::ReturnResult(ReturnResult::GetWtanParam(result))))
+            }
+            (state, Event::Error(error)) if state.asked().is_some() => Step::Closes(settle(
+                state.owed(),
+                Body::ReturnError(error),
+                Report::Failure(Cause::Error(error)),
+            )),
+            (state, Event::Reject(problem)) if state.asked().is_some() => Step::Closes(settle(
+                state.owed(),
+                Body::ReturnError(ErrorCode::ParamNotAvailable),
+                Report::Failure(Cause::Reject(problem)),
+            )),
+            (state, Event::Expiry) => Step::Closes(settle(
+                state.owed(),
+                Body::ReturnError(ErrorCode::TemporarilyUnavailable),
+                Report::Failure(Cause::Expiry(state.timer())),
+            )),
+            _ => Step::Stray,
         }
     }
 }

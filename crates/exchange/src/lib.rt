@@ -6,12 +6,17 @@ mod dialogue;
 mod entry;
 mod fit_out;
 mod in_service;
+mod numbers;
 mod outcome;
+mod results;
 mod service;
+mod state;
 mod table;
 
-pub use dialogue::{Dialogue, OwnNumber, State};
+pub use dialogue::Dialogue;
 pub use fit_out::{FitOut, Timer};
 pub use in_service::Exchange;
+pub use numbers::{Asked, Owed, OwnNumber, PeerInvokeId};
 pub use outcome::{Cause, Done, Report};
 pub use service::Service;
+pub use state::State;

@@ -1,4 +1,5 @@
 // What a record of a tape asks, in words.
+use crate::bytes::Bytes;
 use crate::digits::Digits;
 use entries::KeyPlace;
 use exchange::FitOut;
@@ -86,6 +87,37 @@ impl fmt::Display for Asked<'_> {
                 write!(
                     f,
                     "at {reading} ms, plain initiation to peer {peer} for user {user}"
+                )
+            }
+            Some(
+                Record::InitiationWithValues {
+                    reading,
+                    peer,
+                    digits,
+                },
+            ) => {
+                let user = Digits { text: digits };
+                write!(
+                    f,
+                    "at {reading} ms, initiation with values to peer {peer} for user {user}"
+                )
+            }
+            Some(Record::VisitorStart { reading, digits }) => {
+                let user = Digits { text: digits };
+                write!(f, "at {reading} ms, Visitor start for user {user}")
+            }
+            Some(
+                Record::NetworkProof {
+                    reading,
+                    challenge,
+                    digits,
+                },
+            ) => {
+                let user = Digits { text: digits };
+                let challenge = Bytes(challenge);
+                write!(
+                    f,
+                    "at {reading} ms, network proof for user {user} to challenge {challenge}"
                 )
             }
             Some(Record::Clock { reading }) => write!(f, "at {reading} ms, clock"),

@@ -1,25 +1,32 @@
 // What came of a record, in words, from the record of the sheet.
-use crate::digits::Digits;
+use crate::bytes::Bytes;
+use crate::sent::{ErrorName, Sent, VerdictName};
 use exchange::Timer;
 use refusal::Refusal;
-use sheet::{Answer, EXPIRY, FAILURE};
+use sheet::{Answer, causes, reports};
 use std::fmt;
-use wire::{Field, Kind, Operation, Reader, tags};
+use wire::Field;
 
 #[derive(Clone, Copy)]
 pub struct Came<'a>(pub Field<'a>);
 
-// A field of an APDU, by its name.
-#[derive(Clone, Copy)]
-struct Named<'a>(Field<'a>);
-
-// An APDU, field by field.
-#[derive(Clone, Copy)]
-struct Sent<'a>(&'a [u8]);
-
 // What is reported of a dialogue.
 #[derive(Clone, Copy)]
 struct Reported<'a>(&'a [u8]);
+
+// The kind of a report, and what it tells.
+#[derive(Clone, Copy)]
+struct Told<'a> {
+    kind: u8,
+    value: &'a [u8],
+}
+
+// Why a dialogue failed, by the cause and its number.
+#[derive(Clone, Copy)]
+struct Failed {
+    cause: u8,
+    number: u8,
+}
 
 // A timer by its number.
 #[derive(Clone, Copy)]
@@ -28,41 +35,6 @@ struct Timed(u8);
 // A refusal by its number.
 #[derive(Clone, Copy)]
 struct Refused(u8);
-
-impl fmt::Display for Named<'_> {
-    fn fmt<W: fmt::Write>(&self, f: &mut fmt::Formatter<W>) -> fmt::Result {
-        match (self.0.tag, self.0.value) {
-            (tags::KIND, [number]) if Kind::try_from(*number) == Ok(Kind::Invoke) => {
-                write!(f, "kind invoke")
-            }
-            (tags::ID, [high, low]) => {
-                let id = u16::from_be_bytes([*high, *low]);
-                write!(f, "invoke id {id}")
-            }
-            (tags::OPERATION, [number])
-                if Operation::try_from(*number) == Ok(Operation::AuthWtmUser) => {
-                write!(f, "operation authWtmUser")
-            }
-            (tags::USER, text) => {
-                let user = Digits { text };
-                write!(f, "user number {user}")
-            }
-            (tag, value) => {
-                let size = value.len();
-                write!(f, "field {tag:02X} of size {size}")
-            }
-        }
-    }
-}
-
-impl fmt::Display for Sent<'_> {
-    fn fmt<W: fmt::Write>(&self, f: &mut fmt::Formatter<W>) -> fmt::Result {
-        for field in Reader::new(self.0) {
-            write!(f, ", {}", Named(field))?;
-        }
-        Ok(())
-    }
-}
 
 impl fmt::Display for Timed {
     fn fmt<W: fmt::Write>(&self, f: &mut fmt::Formatter<W>) -> fmt::Result {
@@ -74,16 +46,48 @@ impl fmt::Display for Timed {
     }
 }
 
+impl fmt::Display for Failed {
+    fn fmt<W: fmt::Write>(&self, f: &mut fmt::Formatter<W>) -> fmt::Result {
+        let Failed { cause, number } = *self;
+        match cause {
+            causes::ERROR => write!(f, "by error {}", ErrorName(number)),
+            causes::REJECT => write!(f, "by a reject with problem {number}"),
+            causes::EXPIRY => write!(f, "by expiry of {}", Timed(number)),
+            _ => write!(f, "by cause {cause}"),
+        }
+    }
+}
+
+impl fmt::Display for Told<'_> {
+    fn fmt<W: fmt::Write>(&self, f: &mut fmt::Formatter<W>) -> fmt::Result {
+        match (self.kind, self.value) {
+            (reports::CHALLENGE, challenge) => {
+                write!(f, "gives the terminal the challenge {}", Bytes(challenge))
+            }
+            (reports::VERDICT, [number]) => {
+                write!(f, "is closed with verdict {}", VerdictName(*number))
+            }
+            (reports::FAILURE, [cause, number]) => {
+                let failed = Failed {
+                    cause: *cause,
+                    number: *number,
+                };
+                write!(f, "is closed: failure {failed}")
+            }
+            (reports::RESPONSE, response) => {
+                write!(f, "is closed with response {}", Bytes(response))
+            }
+            (kind, _) => write!(f, "has report {kind}"),
+        }
+    }
+}
+
 impl fmt::Display for Reported<'_> {
     fn fmt<W: fmt::Write>(&self, f: &mut fmt::Formatter<W>) -> fmt::Result {
         match self.0 {
-            [FAILURE, high, low, EXPIRY, timer] => {
+            [kind, high, low, value @ ..] => {
                 let name = u16::from_be_bytes([*high, *low]);
-                write!(
-                    f,
-                    "dialogue {name} is closed and its failure reported, by expiry of {}",
-                    Timed(*timer)
-                )
+                write!(f, "dialogue {name} {}", Told { kind: *kind, value })
             }
             _ => write!(f, "reported"),
         }
@@ -108,7 +112,11 @@ impl fmt::Display for Came<'_> {
             }
             (Ok(Answer::Reported), report) => write!(f, "{}", Reported(report)),
             (Ok(Answer::Refused), [number]) => write!(f, "{}", Refused(*number)),
-            _ => write!(f, "done"),
+            (Ok(Answer::Done), _) => write!(f, "done"),
+            (_, value) => {
+                let size = value.len();
+                write!(f, "record of size {size}")
+            }
         }
     }
 }

@@ -2,8 +2,10 @@
 #![tactic(auto)]
 
 mod asked;
+mod bytes;
 mod came;
 mod digits;
+mod sent;
 
 use asked::Asked;
 use came::Came;

@@ -17,8 +17,8 @@ pub enum Refusal {
     ClockBack = 2,
     // The call is no clock call, and a timer ends at or before its reading.
     TimerDue = 3,
-    // A bad user number, an initiation's peer that is not among the links, a place above 2 for a subscriber that is added,
-    // or peer 0 for a link that is.
+    // A bad user number, an initiation's peer that is not among the links, a challenge of another size than 8 bytes, a place
+    // above 2 for a subscriber that is added, or peer 0 for a link that is.
     Misdialled = 4,
     // A tape record that is cut, unknown, of a wrong size, or a second fit-out; fields to write that are no APDU.
     Garbled = 5,

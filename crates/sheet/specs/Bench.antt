@@ -4,6 +4,7 @@ use Rattle.refusal.specs.declared.Refusal.{Refusal}
 use Rattle.refusal.specs.declared.Refusal.TheVariants.{Garbled, Misfitted}
 use Rattle.directory.specs.Contents.{contents, places}
 use Rattle.directory.specs.declared.directory.Directory.{Directory}
+use Rattle.algorithm.specs.Xtea.{xtea_meaning}
 use Rattle.entries.specs.declared.link.Link.{Link}
 use Rattle.entries.specs.declared.subscriber.Subscriber.{Subscriber}
 use Rattle.entries.specs.Entries.{adding_answer, adding_left}
@@ -14,9 +15,9 @@ use Rattle.exchange.specs.declared.outcome.Done.TheVariants.{Quiet}
 use Rattle.exchange.specs.declared.service.Service.{Service}
 use Rattle.exchange.specs.Service.{by}
 use Rattle.exchange.specs.Entry.{entered}
-use Rattle.exchange.specs.Calls.{After, initiated, clocked}
+use Rattle.exchange.specs.Calls.{After, initiated, initiated_with_values, visitor_started, proof_requested, clocked}
 use Rattle.sheet.specs.declared.bench.Bench.{Bench}
-use Rattle.sheet.specs.Records.{Entry, fit_out, link, subscriber, initiation, clock, unreadable}
+use Rattle.sheet.specs.Records.{Entry, fit_out, link, subscriber, plain_initiation, initiation_with_values, visitor_start, network_proof, clock, unreadable}
 
 -- what a directory holds, and how many places it has
 pub record Held (R : Type 0) : Type 0 where
@@ -38,11 +39,7 @@ state_of b = record { service = b.exchange.service; links = held b.links; subscr
 -- the first record, which has to be a lawful fit-out
 abbrev pub first_taken : Entry → Result Service Refusal
 first_taken (fit_out f) = entered f
-first_taken (link peer) = Err Misfitted
-first_taken (subscriber place key digits) = Err Misfitted
-first_taken (initiation reading peer digits) = Err Misfitted
-first_taken (clock reading) = Err Misfitted
-first_taken unreadable = Err Misfitted
+first_taken e = Err Misfitted
 
 -- the answer, the bench and the buffer at the return
 pub record AfterRecord : Type 0 where
@@ -86,6 +83,9 @@ abbrev pub taken : State → Entry → List ℕ → AfterRecord
 taken b (fit_out f) out = passed_over b out
 taken b (link peer) out = linked b peer out
 taken b (subscriber place key digits) out = subscribed b (subscriber_of digits place key) out
-taken b (initiation reading peer digits) out = called b (initiated b.service reading digits peer b.links.entries out)
+taken b (plain_initiation reading peer digits) out = called b (initiated b.service reading digits peer b.links.entries out)
+taken b (initiation_with_values reading peer digits) out = called b (initiated_with_values b.service reading digits peer b.links.entries out)
+taken b (visitor_start reading digits) out = called b (visitor_started b.service reading digits out)
+taken b (network_proof reading challenge digits) out = called b (proof_requested b.service reading digits challenge xtea_meaning.number out)
 taken b (clock reading) out = called b (clocked b.service reading out)
 taken b unreadable out = passed_over b out

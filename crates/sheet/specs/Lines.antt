@@ -2,18 +2,18 @@
 use Rattle.std.specs.Prelude.{ℕ, List, [], ◌∷◌, ◌++◌, take, Ok, Err, Option, Result}
 use Rattle.refusal.specs.declared.Refusal.{Refusal}
 use Rattle.refusal.specs.Numbers.{refusal_number}
+use Rattle.wire.specs.Codes.{coded, error_number, verdict_number}
 use Rattle.wire.specs.Fields.{field, two}
-use Rattle.exchange.specs.declared.dialogue.OwnNumber.{OwnNumber}
+use Rattle.exchange.specs.declared.numbers.OwnNumber.{OwnNumber}
 use Rattle.exchange.specs.declared.outcome.Done.{Done}
 use Rattle.exchange.specs.declared.outcome.Done.TheVariants.{Quiet, Sent, Reported}
 use Rattle.exchange.specs.declared.outcome.Cause.{Cause}
-use Rattle.exchange.specs.declared.outcome.Cause.TheVariants.{Expiry}
+use Rattle.exchange.specs.declared.outcome.Cause.TheVariants as cause
 use Rattle.exchange.specs.declared.outcome.Report.{Report}
-use Rattle.exchange.specs.declared.outcome.Report.TheVariants.{Failure}
+use Rattle.exchange.specs.declared.outcome.Report.TheVariants as report
 use Rattle.exchange.specs.FitOut.{timer_number}
 use Rattle.sheet.specs.declared.lines.Answer.{Answer}
 use Rattle.sheet.specs.declared.lines.Answer.TheVariants as answer
-use Rattle.wire.specs.Codes.{coded}
 
 -- the tag of each answer
 abbrev pub answer_tag : Answer → ℕ
@@ -26,13 +26,28 @@ answer_tag answer.Done = 0x33
 abbrev pub answer_of : ℕ → Option Answer
 answer_of tag = coded answer_tag (answer.Sent ∷ answer.Reported ∷ answer.Refused ∷ answer.Done ∷ []) tag
 
--- a cause and its number: 3 expiry, with the timer's
+-- a cause and its number: 1 error, 2 reject with its problem, 3 expiry with the timer's
 abbrev pub cause_bytes : Cause → List ℕ
-cause_bytes (Expiry timer) = 3 ∷ timer_number timer ∷ []
+cause_bytes (cause.Error error) = 1 ∷ error_number error ∷ []
+cause_bytes (cause.Reject problem) = 2 ∷ problem ∷ []
+cause_bytes (cause.Expiry timer) = 3 ∷ timer_number timer ∷ []
 
--- a kind, a name, and what is reported: 3 failure, with its cause
+-- the kind of a report, and what it tells: 1 challenge, 2 verdict, 3 failure with its cause, 4 response
+abbrev pub report_kind : Report → ℕ
+report_kind (report.Challenge challenge) = 1
+report_kind (report.Verdict verdict) = 2
+report_kind (report.Failure cause) = 3
+report_kind (report.Response response) = 4
+
+abbrev pub told_bytes : Report → List ℕ
+told_bytes (report.Challenge challenge) = challenge
+told_bytes (report.Verdict verdict) = verdict_number verdict ∷ []
+told_bytes (report.Failure cause) = cause_bytes cause
+told_bytes (report.Response response) = response
+
+-- the kind, the dialogue's name, and what is told
 abbrev pub report_bytes : OwnNumber → Report → List ℕ
-report_bytes name (Failure cause) = 3 ∷ (two name.0 ++ cause_bytes cause)
+report_bytes name r = report_kind r ∷ (two name.0 ++ told_bytes r)
 
 abbrev pub report_record : OwnNumber → Report → List ℕ
 report_record name report = field 0x31 (report_bytes name report)

@@ -11,7 +11,12 @@ pub data Entry : Type 0 where
   -- place, key, digits
   subscriber : ℕ → List ℕ → List ℕ → Entry
   -- reading, peer, digits
-  initiation : ℕ → ℕ → List ℕ → Entry
+  plain_initiation : ℕ → ℕ → List ℕ → Entry
+  initiation_with_values : ℕ → ℕ → List ℕ → Entry
+  -- reading, digits
+  visitor_start : ℕ → List ℕ → Entry
+  -- reading, challenge, digits
+  network_proof : ℕ → List ℕ → List ℕ → Entry
   clock : ℕ → Entry
   unreadable : Entry
 
@@ -19,7 +24,10 @@ abbrev pub view : Record → Entry
 view (record_of.FitOut f) = fit_out f
 view (record_of.Link peer) = link peer
 view (record_of.Subscriber place key digits) = subscriber place key.now digits.now
-view (record_of.PlainInitiation reading peer digits) = initiation reading peer digits.now
+view (record_of.PlainInitiation reading peer digits) = plain_initiation reading peer digits.now
+view (record_of.InitiationWithValues reading peer digits) = initiation_with_values reading peer digits.now
+view (record_of.VisitorStart reading digits) = visitor_start reading digits.now
+view (record_of.NetworkProof reading challenge digits) = network_proof reading challenge.now digits.now
 view (record_of.Clock reading) = clock reading
 
 -- what a record asks, if the bytes are one
@@ -60,9 +68,28 @@ read_link v = cond (length v == 1) (link (slice_index v 0)) unreadable
 abbrev pub read_subscriber : List ℕ → Entry
 read_subscriber v = cond (nat_lt (length v) 17) unreadable (subscriber (slice_index v 0) (take 16 (drop 1 v)) (drop 17 v))
 
--- a reading of eight bytes, a peer, and digits to the end
-abbrev pub read_initiation : List ℕ → Entry
-read_initiation v = cond (nat_lt (length v) 9) unreadable (initiation (big_endian 0 (take 8 v)) (slice_index v 8) (drop 9 v))
+-- the reading of eight bytes with which an event begins
+abbrev pub reading_of : List ℕ → ℕ
+reading_of v = big_endian 0 (take 8 v)
+
+-- a reading, a peer, and digits to the end
+abbrev pub read_dialled : (ℕ → ℕ → List ℕ → Entry) → List ℕ → Entry
+read_dialled entry v = cond (nat_lt (length v) 9) unreadable (entry (reading_of v) (slice_index v 8) (drop 9 v))
+
+abbrev pub read_plain_initiation : List ℕ → Entry
+read_plain_initiation v = read_dialled plain_initiation v
+
+abbrev pub read_initiation_with_values : List ℕ → Entry
+read_initiation_with_values v = read_dialled initiation_with_values v
+
+-- a reading, and digits to the end
+abbrev pub read_visitor_start : List ℕ → Entry
+read_visitor_start v = cond (nat_lt (length v) 8) unreadable (visitor_start (reading_of v) (drop 8 v))
+
+-- a reading, a challenge of eight bytes, and digits to the end
+abbrev pub read_network_proof : List ℕ → Entry
+read_network_proof v =
+    cond (nat_lt (length v) 16) unreadable (network_proof (reading_of v) (take 8 (drop 8 v)) (drop 16 v))
 
 abbrev pub read_clock : List ℕ → Entry
 read_clock v = cond (length v == 8) (clock (big_endian 0 v)) unreadable
@@ -73,5 +100,8 @@ read_entry tag v =
     cond (tag == 0x10) (read_fit_out v)
     (cond (tag == 0x11) (read_link v)
     (cond (tag == 0x12) (read_subscriber v)
-    (cond (tag == 0x20) (read_initiation v)
-    (cond (tag == 0x26) (read_clock v) unreadable))))
+    (cond (tag == 0x20) (read_plain_initiation v)
+    (cond (tag == 0x21) (read_initiation_with_values v)
+    (cond (tag == 0x22) (read_visitor_start v)
+    (cond (tag == 0x23) (read_network_proof v)
+    (cond (tag == 0x26) (read_clock v) unreadable)))))))

@@ -1,10 +1,11 @@
-// An exchange in service with its links and subscribers, as the records of a tape reach it.
+// An exchange in service with its links, its subscribers and algorithm 1, as the records of a tape reach it.
 ghost use Rattle.std.specs.Prelude.{◌≡◌, [], length};
 ghost use Rattle.exchange.specs.Entry.{service_of};
 ghost use Rattle.sheet.specs.Records.{read_entry};
 ghost use Rattle.sheet.specs.Bench.{state_of, first_taken, taken};
 
 use crate::record::Record;
+use algorithm::Xtea;
 use directory::Directory;
 use entries::{Link, Subscriber, add_link, add_subscriber};
 use exchange::{Done, Exchange};
@@ -14,6 +15,7 @@ use wire::Field;
 #[derive(Drop)]
 pub(crate) struct Bench<'a> {
     exchange: Exchange,
+    algorithm: Xtea,
     links: Directory<'a, Link>,
     subscribers: Directory<'a, Subscriber>,
 }
@@ -39,6 +41,7 @@ impl<'a> Bench<'a> {
     {
         Bench {
             exchange,
+            algorithm: Xtea,
             links: Directory::new(links),
             subscribers: Directory::new(subscribers),
         }
@@ -65,7 +68,24 @@ impl<'a> Bench<'a> {
             } => self
                 .exchange
                 .plain_initiation(reading, digits, peer, &self.links, out),
-            Record::Clock { reading } => self.exchange.clock(reading, out),
+            Record::InitiationWithValues {
+                reading,
+                peer,
+                digits,
+            } => self
+                .exchange
+                .initiation_with_values(reading, digits, peer, &self.links, out),
+            Record::VisitorStart { reading, digits } => {
+                self.exchange.visitor_start(reading, digits, out)
+            }
+            Record::NetworkProof {
+                reading,
+                challenge,
+                digits,
+            } => self
+                .exchange
+                .network_proof(reading, digits, challenge, &self.algorithm, out),
+            Record::Clock { reading } => self.exchange.clock(reading, &mut self.algorithm, out),
         }
     }
 }

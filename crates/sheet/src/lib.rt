@@ -2,11 +2,13 @@
 #![tactic(auto)]
 
 mod bench;
+pub mod causes;
 mod lines;
 mod numbers;
 mod record;
+pub mod reports;
 mod run;
 
-pub use lines::{Answer, EXPIRY, FAILURE};
+pub use lines::Answer;
 pub use record::Record;
 pub use run::sheet;

@@ -1,10 +1,11 @@
 // The records of a sheet.
-ghost use Rattle.std.specs.Prelude.{◌≡◌, ◌≤◌, ◌∷◌, length, take};
-ghost use Rattle.wire.specs.Fields.{field};
+ghost use Rattle.std.specs.Prelude.{◌≡◌, ◌≤◌, ◌∷◌, ◌++◌, length, take};
+ghost use Rattle.wire.specs.Fields.{field, two};
 ghost use Rattle.std.specs.Option.{ok_or};
 ghost use Rattle.sheet.specs.Adds.{Adds};
-ghost use Rattle.sheet.specs.Lines.{answer_of, report_record, sheet_record};
+ghost use Rattle.sheet.specs.Lines.{answer_of, cause_bytes, report_record, sheet_record};
 
+use crate::{causes, reports};
 use exchange::{Cause, Done, OwnNumber, Report};
 use refusal::Refusal;
 use std::alloc::AllocError;
@@ -36,27 +37,48 @@ impl TryFrom<u8> for Answer {
     }
 }
 
-// The number of a report of a failure, and that of a failure by expiry. Constants, since reports and causes carry values,
-// so that the numbers are no discriminants of theirs.
-pub const FAILURE: u8 = 3;
-
-pub const EXPIRY: u8 = 3;
-
-fn report_record(name: OwnNumber, report: Report) -> [u8; 8]
-    ensures { result ≡ report_record name report }
+// A report of a kind: the dialogue's name, and what is reported of it.
+fn add_report_of(
+    kind: u8,
+    name: OwnNumber,
+    told: &[u8],
+    sheet: &mut Vec<u8>,
+) -> Result<(), AllocError>
+    requires { length told.now ≤ 8 }
+    ensures { Adds result sheet.old sheet.new (field 0x31 (kind ∷ two name.0 ++ told.now)) }
 {
-    let Report::Failure(Cause::Expiry(timer)) = report;
+    let size = told.len() as u8 + 3;
     let [high, low] = name.0.to_be_bytes();
-    [
-        Answer::Reported as u8,
-        0,
-        5,
-        FAILURE,
-        high,
-        low,
-        EXPIRY,
-        timer.into(),
-    ]
+    sheet.extend_from_slice(&[Answer::Reported as u8, 0, size, kind, high, low])?;
+    sheet.extend_from_slice(told)
+}
+
+// The cause of a failure and its number.
+fn cause_bytes(cause: Cause) -> [u8; 2]
+    ensures { result ≡ cause_bytes cause }
+{
+    match cause {
+        Cause::Error(error) => [causes::ERROR, error.into()],
+        Cause::Reject(problem) => [causes::REJECT, problem],
+        Cause::Expiry(timer) => [causes::EXPIRY, timer.into()],
+    }
+}
+
+fn add_report(name: OwnNumber, report: Report, sheet: &mut Vec<u8>) -> Result<(), AllocError>
+    ensures { Adds result sheet.old sheet.new (report_record name report) }
+{
+    match report {
+        Report::Challenge(challenge) => {
+            add_report_of(reports::CHALLENGE, name, &challenge, sheet)
+        }
+        Report::Verdict(verdict) => {
+            add_report_of(reports::VERDICT, name, &[verdict.into()], sheet)
+        }
+        Report::Failure(cause) => {
+            add_report_of(reports::FAILURE, name, &cause_bytes(cause), sheet)
+        }
+        Report::Response(response) => { add_report_of(reports::RESPONSE, name, &response, sheet) }
+    }
 }
 
 // The first bytes of the buffer.
@@ -88,9 +110,7 @@ pub(crate) fn add_record(
     match *outcome {
         Ok(Done::Quiet) => sheet.extend_from_slice(&[Answer::Done as u8, 0, 0]),
         Ok(Done::Sent { peer, size }) => add_sent(peer, front(buffer, size), sheet),
-        Ok(Done::Reported { name, report }) => sheet.extend_from_slice(&report_record(
-            name, report,
-        )),
+        Ok(Done::Reported { name, report }) => add_report(name, report, sheet),
         Err(refusal) => sheet.extend_from_slice(&[Answer::Refused as u8, 0, 1, refusal.into()]),
     }
 }

@@ -1,8 +1,9 @@
 // The records of a tape.
 ghost use Rattle.std.specs.Prelude.{◌≡◌};
-ghost use Rattle.sheet.specs.Records.{seen, read_fit_out, read_link, read_subscriber, read_initiation, read_clock, read_entry};
+ghost use Rattle.sheet.specs.Records.{seen, read_fit_out, read_link, read_subscriber, read_plain_initiation, read_initiation_with_values, read_visitor_start, read_network_proof, read_clock, read_entry};
 
 use crate::numbers::{eight, four};
+use apdu::Challenge;
 use entries::UserKey;
 use exchange::FitOut;
 use wire::Field;
@@ -21,6 +22,20 @@ pub enum Record<'a> {
     PlainInitiation {
         reading: u64,
         peer: u8,
+        digits: &'a [u8],
+    },
+    InitiationWithValues {
+        reading: u64,
+        peer: u8,
+        digits: &'a [u8],
+    },
+    VisitorStart {
+        reading: u64,
+        digits: &'a [u8],
+    },
+    NetworkProof {
+        reading: u64,
+        challenge: &'a Challenge,
         digits: &'a [u8],
     },
     Clock {
@@ -74,13 +89,47 @@ fn subscriber(value: &[u8]) -> Option<Record<'_>>
 }
 
 fn plain_initiation(value: &[u8]) -> Option<Record<'_>>
-    ensures { seen result ≡ read_initiation value.now }
+    ensures { seen result ≡ read_plain_initiation value.now }
 {
     let (reading, rest) = value.split_first_chunk::<8>()?;
     let (peer, digits) = rest.split_first()?;
     Some(Record::PlainInitiation {
         reading: eight(*reading),
         peer: *peer,
+        digits,
+    })
+}
+
+fn initiation_with_values(value: &[u8]) -> Option<Record<'_>>
+    ensures { seen result ≡ read_initiation_with_values value.now }
+{
+    let (reading, rest) = value.split_first_chunk::<8>()?;
+    let (peer, digits) = rest.split_first()?;
+    Some(Record::InitiationWithValues {
+        reading: eight(*reading),
+        peer: *peer,
+        digits,
+    })
+}
+
+fn visitor_start(value: &[u8]) -> Option<Record<'_>>
+    ensures { seen result ≡ read_visitor_start value.now }
+{
+    let (reading, digits) = value.split_first_chunk::<8>()?;
+    Some(Record::VisitorStart {
+        reading: eight(*reading),
+        digits,
+    })
+}
+
+fn network_proof(value: &[u8]) -> Option<Record<'_>>
+    ensures { seen result ≡ read_network_proof value.now }
+{
+    let (reading, rest) = value.split_first_chunk::<8>()?;
+    let (challenge, digits) = rest.split_first_chunk::<8>()?;
+    Some(Record::NetworkProof {
+        reading: eight(*reading),
+        challenge,
         digits,
     })
 }
@@ -106,6 +155,9 @@ impl<'a> Record<'a> {
             0x11 => link(field.value),
             0x12 => subscriber(field.value),
             0x20 => plain_initiation(field.value),
+            0x21 => initiation_with_values(field.value),
+            0x22 => visitor_start(field.value),
+            0x23 => network_proof(field.value),
             0x26 => clock(field.value),
             _ => None,
         }
