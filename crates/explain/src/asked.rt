@@ -3,7 +3,7 @@ use crate::bytes::Bytes;
 use crate::digits::Digits;
 use entries::KeyPlace;
 use exchange::FitOut;
-use sheet::Record;
+use sheet::{Initiation, Record};
 use std::fmt;
 use users::UserNumber;
 use wire::Field;
@@ -77,11 +77,13 @@ impl fmt::Display for Asked<'_> {
                 write!(f, "subscriber {user}, {}", Placed(place))
             }
             Some(
-                Record::PlainInitiation {
-                    reading,
-                    peer,
-                    digits,
-                },
+                Record::PlainInitiation(
+                    Initiation {
+                        reading,
+                        peer,
+                        digits,
+                    },
+                ),
             ) => {
                 let user = Digits { text: digits };
                 write!(
@@ -90,11 +92,13 @@ impl fmt::Display for Asked<'_> {
                 )
             }
             Some(
-                Record::InitiationWithValues {
-                    reading,
-                    peer,
-                    digits,
-                },
+                Record::InitiationWithValues(
+                    Initiation {
+                        reading,
+                        peer,
+                        digits,
+                    },
+                ),
             ) => {
                 let user = Digits { text: digits };
                 write!(

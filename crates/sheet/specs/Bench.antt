@@ -83,8 +83,8 @@ abbrev pub taken : State → Entry → List ℕ → AfterRecord
 taken b (fit_out f) out = passed_over b out
 taken b (link peer) out = linked b peer out
 taken b (subscriber place key digits) out = subscribed b (subscriber_of digits place key) out
-taken b (plain_initiation reading peer digits) out = called b (initiated b.service reading digits peer b.links.entries out)
-taken b (initiation_with_values reading peer digits) out = called b (initiated_with_values b.service reading digits peer b.links.entries out)
+taken b (plain_initiation i) out = called b (initiated b.service i.reading i.digits i.peer b.links.entries out)
+taken b (initiation_with_values i) out = called b (initiated_with_values b.service i.reading i.digits i.peer b.links.entries out)
 taken b (visitor_start reading digits) out = called b (visitor_started b.service reading digits out)
 taken b (network_proof reading challenge digits) out = called b (proof_requested b.service reading digits challenge xtea_meaning.number out)
 taken b (clock reading) out = called b (clocked b.service reading out)

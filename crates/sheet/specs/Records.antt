@@ -1,8 +1,16 @@
 -- The records of a tape.
 use Rattle.std.specs.Prelude.{ℕ, ◌+◌, ◌*◌, cond, List, [], ◌∷◌, length, take, drop, Some, None, Option, ◌==◌, nat_lt, slice_index}
+use Rattle.std.specs.Option.{option_map}
 use Rattle.exchange.specs.declared.fit_out.FitOut.{FitOut}
+use Rattle.sheet.specs.declared.record.Initiation.{Initiation}
 use Rattle.sheet.specs.declared.record.Record.{Record}
 use Rattle.sheet.specs.declared.record.Record.TheVariants as record_of
+
+-- what both initiations have
+pub record InitiationEntry : Type 0 where
+  pub reading : ℕ
+  pub peer : ℕ
+  pub digits : List ℕ
 
 -- what a record asks
 pub data Entry : Type 0 where
@@ -10,9 +18,8 @@ pub data Entry : Type 0 where
   link : ℕ → Entry
   -- place, key, digits
   subscriber : ℕ → List ℕ → List ℕ → Entry
-  -- reading, peer, digits
-  plain_initiation : ℕ → ℕ → List ℕ → Entry
-  initiation_with_values : ℕ → ℕ → List ℕ → Entry
+  plain_initiation : InitiationEntry → Entry
+  initiation_with_values : InitiationEntry → Entry
   -- reading, digits
   visitor_start : ℕ → List ℕ → Entry
   -- reading, challenge, digits
@@ -20,12 +27,18 @@ pub data Entry : Type 0 where
   clock : ℕ → Entry
   unreadable : Entry
 
+abbrev pub initiation_view : Initiation → InitiationEntry
+initiation_view i = record { reading = i.reading; peer = i.peer; digits = i.digits.now }
+
+abbrev pub initiation_seen : Option Initiation → Option InitiationEntry
+initiation_seen o = option_map initiation_view o
+
 abbrev pub view : Record → Entry
 view (record_of.FitOut f) = fit_out f
 view (record_of.Link peer) = link peer
 view (record_of.Subscriber place key digits) = subscriber place key.now digits.now
-view (record_of.PlainInitiation reading peer digits) = plain_initiation reading peer digits.now
-view (record_of.InitiationWithValues reading peer digits) = initiation_with_values reading peer digits.now
+view (record_of.PlainInitiation i) = plain_initiation (initiation_view i)
+view (record_of.InitiationWithValues i) = initiation_with_values (initiation_view i)
 view (record_of.VisitorStart reading digits) = visitor_start reading digits.now
 view (record_of.NetworkProof reading challenge digits) = network_proof reading challenge.now digits.now
 view (record_of.Clock reading) = clock reading
@@ -73,14 +86,14 @@ abbrev pub reading_of : List ℕ → ℕ
 reading_of v = big_endian 0 (take 8 v)
 
 -- a reading, a peer, and digits to the end
-abbrev pub read_dialled : (ℕ → ℕ → List ℕ → Entry) → List ℕ → Entry
-read_dialled entry v = cond (nat_lt (length v) 9) unreadable (entry (reading_of v) (slice_index v 8) (drop 9 v))
+abbrev pub read_initiation : List ℕ → Option InitiationEntry
+read_initiation v =
+    cond (nat_lt (length v) 9) None (Some (record { reading = reading_of v; peer = slice_index v 8; digits = drop 9 v }))
 
-abbrev pub read_plain_initiation : List ℕ → Entry
-read_plain_initiation v = read_dialled plain_initiation v
-
-abbrev pub read_initiation_with_values : List ℕ → Entry
-read_initiation_with_values v = read_dialled initiation_with_values v
+-- which of the initiations it is, if the bytes are one
+abbrev pub initiation_as : (InitiationEntry → Entry) → Option InitiationEntry → Entry
+initiation_as entry None = unreadable
+initiation_as entry (Some i) = entry i
 
 -- a reading, and digits to the end
 abbrev pub read_visitor_start : List ℕ → Entry
@@ -100,8 +113,8 @@ read_entry tag v =
     cond (tag == 0x10) (read_fit_out v)
     (cond (tag == 0x11) (read_link v)
     (cond (tag == 0x12) (read_subscriber v)
-    (cond (tag == 0x20) (read_plain_initiation v)
-    (cond (tag == 0x21) (read_initiation_with_values v)
+    (cond (tag == 0x20) (initiation_as plain_initiation (read_initiation v))
+    (cond (tag == 0x21) (initiation_as initiation_with_values (read_initiation v))
     (cond (tag == 0x22) (read_visitor_start v)
     (cond (tag == 0x23) (read_network_proof v)
     (cond (tag == 0x26) (read_clock v) unreadable)))))))

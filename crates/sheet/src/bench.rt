@@ -4,7 +4,7 @@ ghost use Rattle.exchange.specs.Entry.{service_of};
 ghost use Rattle.sheet.specs.Records.{read_entry};
 ghost use Rattle.sheet.specs.Bench.{state_of, first_taken, taken};
 
-use crate::record::Record;
+use crate::record::{Initiation, Record};
 use algorithm::Xtea;
 use directory::Directory;
 use entries::{Link, Subscriber, add_link, add_subscriber};
@@ -61,18 +61,22 @@ impl<'a> Bench<'a> {
                 add_subscriber(&mut self.subscribers, digits, place, *key)?;
                 Ok(Done::Quiet)
             }
-            Record::PlainInitiation {
-                reading,
-                peer,
-                digits,
-            } => self
+            Record::PlainInitiation(
+                Initiation {
+                    reading,
+                    peer,
+                    digits,
+                },
+            ) => self
                 .exchange
                 .plain_initiation(reading, digits, peer, &self.links, out),
-            Record::InitiationWithValues {
-                reading,
-                peer,
-                digits,
-            } => self
+            Record::InitiationWithValues(
+                Initiation {
+                    reading,
+                    peer,
+                    digits,
+                },
+            ) => self
                 .exchange
                 .initiation_with_values(reading, digits, peer, &self.links, out),
             Record::VisitorStart { reading, digits } => {

@@ -10,5 +10,5 @@ pub mod reports;
 mod run;
 
 pub use lines::Answer;
-pub use record::Record;
+pub use record::{Initiation, Record};
 pub use run::sheet;

@@ -1,12 +1,20 @@
 // The records of a tape.
 ghost use Rattle.std.specs.Prelude.{◌≡◌};
-ghost use Rattle.sheet.specs.Records.{seen, read_fit_out, read_link, read_subscriber, read_plain_initiation, read_initiation_with_values, read_visitor_start, read_network_proof, read_clock, read_entry};
+ghost use Rattle.sheet.specs.Records.{seen, read_fit_out, read_link, read_subscriber, initiation_seen, read_initiation, read_visitor_start, read_network_proof, read_clock, read_entry};
 
 use crate::numbers::{eight, four};
 use apdu::Challenge;
 use entries::UserKey;
 use exchange::FitOut;
 use wire::Field;
+
+// What both initiations have.
+#[derive(Clone, Copy)]
+pub struct Initiation<'a> {
+    pub reading: u64,
+    pub peer: u8,
+    pub digits: &'a [u8],
+}
 
 #[derive(Clone, Copy)]
 pub enum Record<'a> {
@@ -19,16 +27,8 @@ pub enum Record<'a> {
         key: &'a UserKey,
         digits: &'a [u8],
     },
-    PlainInitiation {
-        reading: u64,
-        peer: u8,
-        digits: &'a [u8],
-    },
-    InitiationWithValues {
-        reading: u64,
-        peer: u8,
-        digits: &'a [u8],
-    },
+    PlainInitiation(Initiation<'a>),
+    InitiationWithValues(Initiation<'a>),
     VisitorStart {
         reading: u64,
         digits: &'a [u8],
@@ -88,24 +88,12 @@ fn subscriber(value: &[u8]) -> Option<Record<'_>>
     })
 }
 
-fn plain_initiation(value: &[u8]) -> Option<Record<'_>>
-    ensures { seen result ≡ read_plain_initiation value.now }
+fn read_initiation(value: &[u8]) -> Option<Initiation<'_>>
+    ensures { initiation_seen result ≡ read_initiation value.now }
 {
     let (reading, rest) = value.split_first_chunk::<8>()?;
     let (peer, digits) = rest.split_first()?;
-    Some(Record::PlainInitiation {
-        reading: eight(*reading),
-        peer: *peer,
-        digits,
-    })
-}
-
-fn initiation_with_values(value: &[u8]) -> Option<Record<'_>>
-    ensures { seen result ≡ read_initiation_with_values value.now }
-{
-    let (reading, rest) = value.split_first_chunk::<8>()?;
-    let (peer, digits) = rest.split_first()?;
-    Some(Record::InitiationWithValues {
+    Some(Initiation {
         reading: eight(*reading),
         peer: *peer,
         digits,
@@ -154,8 +142,8 @@ impl<'a> Record<'a> {
             0x10 => fit_out(field.value),
             0x11 => link(field.value),
             0x12 => subscriber(field.value),
-            0x20 => plain_initiation(field.value),
-            0x21 => initiation_with_values(field.value),
+            0x20 => read_initiation(field.value).map(Record::PlainInitiation),
+            0x21 => read_initiation(field.value).map(Record::InitiationWithValues),
             0x22 => visitor_start(field.value),
             0x23 => network_proof(field.value),
             0x26 => clock(field.value),
