@@ -12,13 +12,22 @@ find no place, `strangers` initiations to a peer that is no link, `unknown` empt
 with an unknown tag, `subscribers` records that add one until there are 64 and are refused
 then, `openings` an initiation and the clock that ends it, in turn, and `proofs` a network
 proof, whose APDU is the longest, and the clock that ends it, in turn (once the numbers are
-spent, after 120,033 records, the requests are refused, and the clocks quiet).
+spent, after 120,033 records, the requests are refused, and the clocks quiet). `enquiries` are
+deliveries of the four invokes for parameters and proofs of users whose key is here, so that
+each is answered at once, one in three with a session. `visits` are a peer's authWtmUser, the
+result from Home that brings it to the terminal, half of them with a unit and half with a
+session, and the terminal's reply, in turn (once the numbers are spent, after 180,033 records,
+the invokes get an error, and the rest is refused).
 """
 import random
 import struct
 import sys
 
-PLAIN, WITH_VALUES, VISITOR_START, PROOF = range(0x20, 0x24)
+PLAIN, WITH_VALUES, VISITOR_START, PROOF, REPLY, DELIVERY, CLOCK = range(0x20, 0x27)
+INVOKE, RESULT = 1, 2
+AUTH_WTM_USER, GET_WTAT_PARAM, WTAT_PARAM_ENQ, GET_WTAN_PARAM, WTAN_PARAM_ENQ = range(1, 6)
+KEY_HERE = 1  # a subscriber's place
+ALGORITHM = b"\x01"
 TIMERS = [30_000, 28_000, 32_000, 30_000, 30_000, 5_000]  # T1 to T5, TR
 MEAN_STEP = 72  # milliseconds from one record to the next
 
@@ -108,13 +117,60 @@ def proofs(n, rng, peers, stranger):
     return (clock(i + TIMERS[3]) if i % 2 else proof(i) for i in range(n))
 
 
-MIXES = {mix.__name__: mix for mix in (service, clocks, full, strangers, unknown, subscribers, openings, proofs)}
+def apdu(kind, invoke_id, operation, fields):
+    """FIELDS are tags and values, in the order of the tags."""
+    head = record(0x01, bytes([kind])) + record(0x02, struct.pack(">H", invoke_id)) + record(0x03, bytes([operation]))
+    return head + b"".join(record(tag, value) for tag, value in fields)
+
+
+def delivery(reading, draw, peer, octets):
+    return record(DELIVERY, struct.pack(">Q", reading) + draw + bytes([peer]) + octets)
+
+
+def enquiries(n, rng, peers, stranger):
+    numbers = [b"%d" % rng.randrange(10**14, 10**15) for _ in range(min(n, 64))]
+    for digits in numbers:
+        yield record(0x12, bytes([KEY_HERE]) + rng.randbytes(16) + digits)
+    # An APDU of each sort for each user, and some draws; ids and readings rise.
+    sorts = []
+    for operation in (GET_WTAT_PARAM, WTAT_PARAM_ENQ, GET_WTAN_PARAM, WTAN_PARAM_ENQ):
+        proof = operation in (GET_WTAN_PARAM, WTAN_PARAM_ENQ)
+        for computes, challenged in ((True, proof), (False, proof), (False, True)):
+            for digits in numbers:
+                fields = [(0x04, digits)] + [(0x05, b"")] * computes
+                fields += [(0x06, rng.randbytes(8))] * challenged + [(0x07, ALGORITHM)] * proof
+                sorts.append(apdu(INVOKE, 1, operation, fields))
+    draws = [rng.randbytes(16) for _ in range(100)]
+    for i in range(n - len(numbers)):
+        octets = sorts[i * 5 % len(sorts)]
+        invoke_id = struct.pack(">H", i % 65_535 + 1)
+        yield delivery(i, draws[i % 100], peers[i % 32], octets[:7] + invoke_id + octets[9:])
+
+
+def visits(n, rng, peers, stranger):
+    home = peers[0]
+    draw = rng.randbytes(16)
+    for i in range(0, n, 3):
+        name = i // 3 + 1
+        invoke_id = min(name, 65_535)
+        response = rng.randbytes(4)
+        given = (0x09, rng.randbytes(24)) if name % 2 else (0x08, rng.randbytes(8) + response)
+        yield delivery(i, draw, peers[name % 32], apdu(INVOKE, invoke_id, AUTH_WTM_USER, [(0x04, b"123456789012345")]))
+        if i + 1 < n:
+            yield delivery(i + 1, draw, home, apdu(RESULT, invoke_id, GET_WTAT_PARAM, [(0x07, ALGORITHM), given]))
+        if i + 2 < n:
+            yield record(REPLY, struct.pack(">QH", i + 2, invoke_id) + response)
+
+
+MIXES = {mix.__name__: mix for mix in (service, clocks, full, strangers, unknown, subscribers, openings, proofs,
+                                       enquiries, visits)}
 
 
 def tape(n, mix, rng):
-    yield record(0x10, struct.pack(">6IBBB", *TIMERS, 2, 3, 1))
     peers = rng.sample(range(1, 256), 33)
     stranger = peers.pop()
+    home, server = peers[:2]
+    yield record(0x10, struct.pack(">6IBBB", *TIMERS, home, server, 1))
     for peer in peers:
         yield record(0x11, bytes([peer]))
     yield from mix(n - 33, rng, peers, stranger)

@@ -3,8 +3,8 @@ ghost use Rattle.algorithm.specs.Meaning.{Meaning, IsSized, answered};
 
 use crate::direction::Direction;
 
-// An algorithm answers as its meaning says, refuses nothing, and means the same after each question. What it notes for
-// itself may change, so a question takes `&mut self`.
+/// An algorithm answers as its meaning says, refuses nothing, and means the same after each question. What it notes for
+/// itself may change, so a question takes `&mut self`.
 pub trait Algorithm {
     ghost meaning: { Self → Meaning };
 
@@ -24,7 +24,7 @@ pub trait Algorithm {
     ghost sized: { (algorithm : Self) → IsSized (meaning algorithm) };
 }
 
-// The response to a challenge under a fresh session key.
+/// The response to a challenge under a fresh session key.
 pub fn answer<A: Algorithm>(
     algorithm: &mut A,
     direction: Direction,

@@ -10,7 +10,7 @@ use refusal::Refusal;
 
 const ROWS: usize = 16;
 
-// A card that takes rows and is not asked yet. The first `count` places are in use.
+/// A card that takes rows and is not asked yet. The first `count` places are in use.
 #[derive(Drop)]
 pub struct Recording {
     rows: [Row; ROWS],
@@ -22,7 +22,7 @@ pub struct Recording {
 impl Recording {
     ghost use Rattle.algorithm.specs.Card.{rows_of, card_rows, row_answer, rows_left};
 
-    // A card with no rows.
+    /// A card with no rows.
     pub fn new() -> Recording
         ensures { rows_of result ≡ [] }
     {
@@ -36,8 +36,8 @@ impl Recording {
         }
     }
 
-    // Adds a row behind the others. A challenge may stand in several rows. A card that is full refuses it, and a
-    // refusal changes nothing.
+    /// Adds a row behind the others. A challenge may stand in several rows. A card that is full, with 16
+    /// rows, refuses it with 8, and a refusal changes nothing.
     pub fn add(&mut self, row: Row) -> Result<(), Refusal>
         ensures answer { result ≡ row_answer (rows_of self.old) }
         ensures rows { rows_of self.new ≡ rows_left (rows_of self.old) row }
@@ -51,7 +51,7 @@ impl Recording {
         Ok(())
     }
 
-    // The card with these rows.
+    /// The card with these rows.
     pub fn finish(self) -> RecordedCard
         ensures { card_rows result ≡ rows_of self }
     {
@@ -59,7 +59,7 @@ impl Recording {
     }
 }
 
-// Algorithm 2: a card that is asked, and takes no rows.
+/// Algorithm 2: a card that is asked, and takes no rows.
 #[derive(Drop)]
 pub struct RecordedCard {
     recording: Recording,

@@ -1,7 +1,7 @@
 ghost use Rattle.std.specs.Prelude.{◌≡◌};
 ghost use Rattle.algorithm.specs.Directions.{direction_number};
 
-// Whose proof a session key is for.
+/// Whose proof a session key is for.
 #[derive(Clone, Copy, PartialEq, Eq, Debug)]
 pub enum Direction {
     User = 1,

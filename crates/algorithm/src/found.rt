@@ -5,7 +5,7 @@ ghost use Rattle.algorithm.specs.Card.{row_for};
 use crate::row::{Row, challenge_key};
 use directory::fetch;
 
-// The first row with a challenge.
+/// The first row with a challenge.
 pub fn row_for(rows: &[Row], challenge: &[u8; 8]) -> Option<Row>
     ensures { result ≡ row_for rows.now challenge.now }
 {

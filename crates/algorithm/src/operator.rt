@@ -6,7 +6,7 @@ ghost use Rattle.algorithm.specs.Sizes.{layer_is_sized};
 use crate::algorithm::Algorithm;
 use crate::direction::Direction;
 
-// Its number and session keys are those of the algorithm below, which is asked each challenge changed by the mask.
+/// An operator's layer over any algorithm, with a mask of 8 bytes. Its number and session keys are those of the algorithm below, which is asked each challenge changed by the mask.
 #[derive(Drop)]
 pub struct Operator<A> {
     pub below: A,

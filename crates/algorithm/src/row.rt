@@ -5,7 +5,7 @@ ghost use Rattle.algorithm.specs.Keys.{challenge_key, NoTwoWithOneKey};
 
 use directory::Keyed;
 
-// A challenge, and the response to it.
+/// A challenge, and the response to it.
 #[derive(Clone, Copy)]
 pub struct Row {
     pub challenge: [u8; 8],
@@ -22,7 +22,7 @@ impl Keyed for Row {
     }
 }
 
-// The key of a row with this challenge.
+/// The key of a row with this challenge.
 #[tactic(auto, using(crate::proofs::Keys::no_two_with_one_key), unfolding(crate::specs::Keys::challenge_key))]
 pub fn challenge_key(challenge: &[u8; 8]) -> u64
     ensures value { result ≡ challenge_key challenge.now }

@@ -87,7 +87,7 @@ fn join(first: &[u8], second: &[u8], places: &mut [u8])
     back.copy_from_slice(second);
 }
 
-// The cipher: a block under a key.
+/// XTEA (Needham and Wheeler, 1997, 32 cycles): a block of 8 bytes under a key of 16, both high byte first.
 #[tactic(auto, unfolding(crate::specs::Xtea::enciphered))]
 pub fn encipher(key: &[u8; 16], block: &[u8; 8]) -> [u8; 8]
     ensures value { result ≡ enciphered key.now block.now }
@@ -105,7 +105,7 @@ fn last_changed(parameter: &[u8; 8], by: u8) -> [u8; 8]
     changed
 }
 
-// Algorithm 1.
+/// Algorithm 1, by XTEA: a session key is two blocks, and a response the first four bytes of one.
 #[derive(Clone, Copy)]
 pub struct Xtea;
 

@@ -8,3 +8,5 @@ pub mod Operations
 pub mod WrittenReadsBack
 pub mod ReadWritesBack
 pub mod Worked
+pub mod Due
+pub mod Rejects

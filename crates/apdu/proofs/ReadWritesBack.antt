@@ -13,7 +13,7 @@ use Rattle.apdu.specs.declared.apdus.Apdu.{Apdu}
 use Rattle.apdu.specs.declared.apdus.NoApdu.TheVariants.{Garbled, RejectDue}
 use Rattle.wire.specs.Codes.{kind_of, kind_number, kinds, operation_of, operation_number, operations}
 use Rattle.apdu.specs.Decode.{argument, operation_in, invoke_in, invoke_with, result_in, result_map, body_in, body_after, with_id, kind_in}
-use Rattle.apdu.specs.Encode.{operation_field, kind_of_body, argument_bytes, result_bytes, body_bytes, body_right, encode}
+use Rattle.apdu.specs.Encode.{head, operation_field, kind_of_body, argument_bytes, result_bytes, body_bytes, body_right, encode}
 use Rattle.apdu.specs.Operations.{Invoke, ReturnResult, operation_with}
 use Rattle.wire.specs.Fields.{value, after, field, two}
 use Rattle.apdu.specs.Grammar.{arguments, results, return_error, reject}
@@ -40,7 +40,7 @@ pub record Follows (k : Kind) (bs : List ℕ) (b : Body) : Type 0 where
   pub right : body_right b ≡ true
   pub sized : BodySized b
 
-byte_in : (o : Option (List ℕ)) (n : ℕ) → must one o ≡ Some n → Some (n ∷ []) ≡ o
+pub byte_in : (o : Option (List ℕ)) (n : ℕ) → must one o ≡ Some n → Some (n ∷ []) ≡ o
 byte_in o n e = (must_back one (λ m. m ∷ []) AnySize (λ v x h. (one_back v x h, tt)) o n e).0
 
 -- the operation stands in front
@@ -120,17 +120,25 @@ head_back (Some k) (Some i) bs a b e =
     let f = body_back k i bs p.0 b p.1.0 in
     subst (Head (Some k) (Some i) bs) p.1.1 (record { kind = ap Some (sym f.kind); id = refl; bytes = f.bytes; right = f.right; sized = f.sized })
 
+-- bytes with a kind and an invoke id are the head of that kind and id, and what follows it
+pub head_bytes : (bs : List ℕ) (k : Kind) (i : ℕ) → Bytes bs → kind_in bs ≡ Some k → must id_in (value tag.id (after tag.kind bs)) ≡ Some i → (head k i ++ after tag.id (after tag.kind bs) ≡ bs) × ((i < 65536) × (leb 1 i ≡ true))
+head_bytes bs k i b e h =
+    let r1 : List ℕ = after tag.kind bs in
+    let r2 : List ℕ = after tag.id r1 in
+    let b1 = bytes_after tag.kind bs b in
+    let c = bind_back (must one (value tag.kind bs)) kind_of k e in
+    let code = coded_back kind_number kinds c.0 k c.1.1 in
+    let v = byte_in (value tag.kind bs) c.0 c.1.0 in
+    let w = id_back (value tag.id r1) i r2 (subst Bytes (sym (field_back tag.id r1 b1)) b1) h in
+    let tail : field tag.id (two i) ++ r2 ≡ r1 = (λ t. wire tag.id (w.0 t) ++ r2) ∙ field_back tag.id r1 b1 in
+    ((λ t. field tag.kind (code t ∷ []) ++ tail t) ∙ (λ t. wire tag.kind (v t) ++ r1) ∙ field_back tag.kind bs b, w.1)
+
 pub read_writes_back : ReadWritesBack
 read_writes_back bs a b e =
     let r1 : List ℕ = after tag.kind bs in
     let r2 : List ℕ = after tag.id r1 in
-    let b1 = bytes_after tag.kind bs b in
-    let b2 = bytes_after tag.id r1 b1 in
+    let b2 = bytes_after tag.id r1 (bytes_after tag.kind bs b) in
     let h = head_back (kind_in bs) (must id_in (value tag.id r1)) r2 a b2 e in
-    let c = bind_back (must one (value tag.kind bs)) kind_of (kind_of_body a.body) h.kind in
-    let code = coded_back kind_number kinds c.0 (kind_of_body a.body) c.1.1 in
-    let k = byte_in (value tag.kind bs) c.0 c.1.0 in
-    let i = id_back (value tag.id r1) a.id r2 (subst Bytes (sym (field_back tag.id r1 b1)) b1) h.id in
-    let tail : field tag.id (two a.id) ++ body_bytes a.body ≡ r1 = (λ t. wire tag.id (i.0 t) ++ h.bytes t) ∙ field_back tag.id r1 b1 in
-    let whole : encode a ≡ bs = (λ t. field tag.kind (code t ∷ []) ++ tail t) ∙ (λ t. wire tag.kind (k t) ++ r1) ∙ field_back tag.kind bs b in
-    (whole, (and_from _ _ i.1.1 h.right, (i.1.0, h.sized)))
+    let f = head_bytes bs (kind_of_body a.body) a.id b h.kind h.id in
+    let whole : encode a ≡ bs = (λ t. head (kind_of_body a.body) a.id ++ h.bytes t) ∙ f.0 in
+    (whole, (and_from _ _ f.1.1 h.right, (f.1.0, h.sized)))

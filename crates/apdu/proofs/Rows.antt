@@ -1,5 +1,5 @@
 -- A row of fields that is written is read, and the reverse. Assumes nothing.
-use Rattle.std.proofs.Common.{◌≡◌, ℕ, ◌+◌, ◌*◌, ◌/◌, ◌%◌, ◌<◌, true, false, eqb, leb, List, [], ◌∷◌, ◌++◌, length, get_or, take, drop, Some, None, Option, sym, refl, ap, ◌∙◌, subst, ⊎_elim, arith}
+use Rattle.std.proofs.Common.{◌≡◌, ℕ, ◌+◌, ◌*◌, ◌/◌, ◌%◌, ◌<◌, true, false, eqb, leb, List, [], ◌∷◌, ◌++◌, length, take, drop, Some, None, Option, sym, refl, ap, ◌∙◌, subst, ⊎_elim, arith}
 use Rattle.std.proofs.lemmas.Option.{cond_some, none-some}
 use Rattle.std.proofs.lemmas.List.{append_assoc, get_or-append-add, take_at, drop_at, length-append, take-append-drop, length-take-le}
 use Rattle.std.proofs.lemmas.Bool.{le-leb, leb-true, cases_Bool, eq-eqb, ne_eqb, eqb-true}
@@ -51,11 +51,12 @@ back_by t bs b (Some f) e = ⊎_elim (λ y. let q : f.tag ≡ t = eqb-true _ _ y
 pub field_back : (t : ℕ) (bs : List ℕ) → Bytes bs → wire t (value t bs) ++ after t bs ≡ bs
 field_back t bs b = back_by t bs b (next_field bs) refl
 
+-- what stands behind some bytes is bytes
+pub bytes_behind : (w rest : List ℕ) → Bytes (w ++ rest) → Bytes rest
+bytes_behind w rest b i = subst (λ (x : ℕ). x < 256) (get_or-append-add w rest i 0) (b (length w + i))
+
 pub bytes_after : (t : ℕ) (bs : List ℕ) → Bytes bs → Bytes (after t bs)
-bytes_after t bs b i =
-    let w : List ℕ = wire t (value t bs) in
-    let e : get_or bs (length w + i) 0 ≡ get_or (after t bs) i 0 = ap (λ l. get_or l (length w + i) 0) (sym (field_back t bs b)) ∙ get_or-append-add w (after t bs) i 0 in
-    subst (λ (x : ℕ). x < 256) e (b (length w + i))
+bytes_after t bs b = bytes_behind (wire t (value t bs)) (after t bs) (subst Bytes (sym (field_back t bs b)) b)
 
 -- rows
 

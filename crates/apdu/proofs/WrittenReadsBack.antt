@@ -30,7 +30,7 @@ kind_there kind.ReturnResult = refl
 kind_there kind.ReturnError = refl
 kind_there kind.Reject = refl
 
-operation_there : (o : Operation) → operation_of (operation_number o) ≡ Some o
+pub operation_there : (o : Operation) → operation_of (operation_number o) ≡ Some o
 operation_there operation.AuthWtmUser = refl
 operation_there operation.GetWtatParam = refl
 operation_there operation.WtatParamEnq = refl
@@ -57,7 +57,7 @@ body_there i (body.ReturnResult x) z h =
 body_there i (body.ReturnError e) z h = ap (λ r. ok_or (option_map body.ReturnError r) Garbled) (shape_there return_error AnySize error_lawful e tt refl)
 body_there i (body.Reject p) z h = ap (λ r. ok_or (option_map body.Reject r) Garbled) (shape_there reject AnySize reject_lawful p tt refl)
 
-head_there : (k : Kind) (i : ℕ) (bs : List ℕ) → 1 ≤ i → received_as (head k i ++ bs) ≡ result_map (with_id i) (body_in k i bs)
+pub head_there : (k : Kind) (i : ℕ) (bs : List ℕ) → 1 ≤ i → received_as (head k i ++ bs) ≡ result_map (with_id i) (body_in k i bs)
 head_there k i bs h =
     let rest : List ℕ = field tag.id (two i) ++ bs in
     let v1 = value_there tag.kind (kind_number k ∷ []) rest (omega arith) in
@@ -69,4 +69,4 @@ head_there k i bs h =
 pub written_reads_back : WrittenReadsBack
 written_reads_back a z h =
     let p = and_parts (leb 1 a.id) (body_right a.body) h in
-    head_there (kind_of_body a.body) a.id (body_bytes a.body) (leb-true _ _ p.0) ∙ ap (result_map (with_id a.id)) (body_there a.id a.body z.1 p.1)
+    head_there (kind_of_body a.body) a.id (body_bytes a.body) (leb-true _ _ p.0) ∙ ap (result_map (with_id a.id)) (body_there a.id a.body z p.1)

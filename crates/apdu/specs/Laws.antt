@@ -1,5 +1,5 @@
 -- What ties reading to writing.
-use Rattle.std.specs.Prelude.{◌≡◌, ℕ, ◌<◌, true, List, length, Some, None, Ok, Option, slice_index}
+use Rattle.std.specs.Prelude.{◌≡◌, ℕ, ◌<◌, ◌≤◌, true, List, length, Some, None, Ok, Err, Option, Result, slice_index}
 use Rattle.apdu.specs.declared.apdus.AuthUnit.{AuthUnit}
 use Rattle.apdu.specs.declared.apdus.AuthSession.{AuthSession}
 use Rattle.apdu.specs.declared.apdus.AuthWtmArg.{AuthWtmArg}
@@ -15,9 +15,11 @@ use Rattle.apdu.specs.declared.apdus.ByOperation.TheVariants.{AuthWtmUser, GetWt
 use Rattle.apdu.specs.declared.apdus.Body.{Body}
 use Rattle.apdu.specs.declared.apdus.Body.TheVariants as body
 use Rattle.apdu.specs.declared.apdus.Apdu.{Apdu}
+use Rattle.apdu.specs.declared.apdus.NoApdu.{NoApdu}
+use Rattle.apdu.specs.declared.apdus.NoApdu.TheVariants.{RejectDue, Garbled}
 use Rattle.apdu.specs.Decode.{received_as}
 use Rattle.apdu.specs.Tags as tag
-use Rattle.apdu.specs.Encode.{encode, is_right}
+use Rattle.apdu.specs.Encode.{encode, is_right, body_right}
 use Rattle.apdu.specs.Operations.{Invoke, ReturnResult}
 
 -- a list of numbers is a string of bytes
@@ -87,8 +89,14 @@ Sized a = (a.id < 65536) × BodySized a.body
 
 -- every APDU that is written reads back as the same APDU
 abbrev pub WrittenReadsBack : Type 0
-WrittenReadsBack = (a : Apdu) → Sized a → is_right a ≡ true → received_as (encode a) ≡ Ok a
+WrittenReadsBack = (a : Apdu) → BodySized a.body → is_right a ≡ true → received_as (encode a) ≡ Ok a
 
 -- every APDU that is read is right for the writer, and is written back as the same bytes
 abbrev pub ReadWritesBack : Type 0
 ReadWritesBack = (bs : List ℕ) (a : Apdu) → Bytes bs → received_as bs ≡ Ok a → (encode a ≡ bs) × ((is_right a ≡ true) × Sized a)
+
+-- what is read, or is due a reject, has an id of at least 1, and what is read is right for the writer
+abbrev pub Lawful : Result Apdu NoApdu → Type 0
+Lawful (Ok a) = (1 ≤ a.id) × (body_right a.body ≡ true)
+Lawful (Err (RejectDue id problem)) = 1 ≤ id
+Lawful (Err Garbled) = Unit {0}

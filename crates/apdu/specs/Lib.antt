@@ -7,4 +7,5 @@ pub mod Grammar
 pub mod Decode
 pub mod Encode
 pub mod Laws
+pub mod Rejects
 pub mod Cases

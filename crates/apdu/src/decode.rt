@@ -4,8 +4,9 @@ ghost use Rattle.wire.specs.declared.codes.Kind.TheVariants as kind;
 ghost use Rattle.apdu.specs.Cases.{CasesStand};
 ghost use Rattle.apdu.specs.Decode.{operation_in, invoke_in, result_in, body_in, kind_in, received_as};
 ghost use Rattle.wire.specs.Fields.{unread, value, after};
-ghost use Rattle.apdu.specs.Laws.{ReadWritesBack};
+ghost use Rattle.apdu.specs.Laws.{ReadWritesBack, Lawful};
 ghost use Rattle.apdu.specs.Operations.{said_with};
+ghost use Rattle.apdu.specs.Rejects.{RejectDueExactly};
 ghost use Rattle.apdu.specs.Tags as tag;
 ghost use Rattle.apdu.specs.Values.{id_in, must};
 
@@ -100,10 +101,14 @@ fn read_apdu(bytes: &[u8]) -> Result<Apdu, NoApdu>
     Ok(Apdu { id, body })
 }
 
-// What a string of bytes is. What is read is right for the writer, which writes the same bytes.
+/// What a string of bytes is. What is read is right for the writer, which writes the same bytes. An id that is read is at
+/// least 1, also that of an invoke that is due a reject. An invoke is due one exactly where no operation has its number, or
+/// where what follows the number is written for no invoke of that operation.
 pub fn read(bytes: &[u8]) -> Result<Apdu, NoApdu>
     ensures value { result ≡ received_as bytes.now }
     ensures writes_back { ReadWritesBack }
+    ensures lawful { Lawful result }
+    ensures due { RejectDueExactly }
     ensures cases { CasesStand }
 {
     read_apdu(bytes)

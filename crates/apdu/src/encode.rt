@@ -45,8 +45,7 @@ impl<A: Row, T: Row, N: Row> ByOperation<A, T, N> {
 }
 
 impl Invoke {
-    // Whether its user number is lawful. No plainer as a method of `Row`, which eight types would have to say in place of
-    // these three arms; it was tried, and writing took a sixth longer.
+    // Whether its user number is lawful.
     fn is_right(&self) -> bool
         ensures { result ≡ invoke_right self.now }
     {
@@ -121,9 +120,11 @@ fn put_apdu(out: &mut [u8], apdu: &Apdu) -> usize
     writer.count()
 }
 
-// Writes the APDU to the front of the buffer, whose rest stays as it was, and says how long it is: answers stand in lent
-// buffers, by a rule of the project.
-// What is written reads back as the same APDU.
+/// Writes the APDU to the front of the buffer, whose rest stays as it was, and says how many bytes it has. What is written
+/// reads back as the same APDU.
+///
+/// Refused with 1 where the buffer has under 64 bytes, and with 5 where the id is 0 or the user number is none. A refusal
+/// leaves the buffer as it was.
 #[tactic(auto, using(crate::proofs::WrittenReadsBack::written_reads_back))]
 pub fn write(apdu: &Apdu, out: &mut [u8]) -> Result<usize, Refusal>
     ensures answer { result ≡ write_answer apdu.now out.old }

@@ -15,8 +15,7 @@ use wire::{ErrorCode, Reader, Verdict, tags};
 pub(crate) trait Row: Sized {
     ghost shape: { Shape Self };
 
-    // What the bytes say to their end, if they are such a row. Codes are read by `try_from` in each: of a conversion at a
-    // type parameter only a relation is known, which would make the contracts longer than the line.
+    // What the bytes say to their end, if they are such a row.
     fn read(fields: &mut Reader<'_>) -> Option<Self>
         ensures { result ≡ shaped shape (unread fields.old) };
 
@@ -43,8 +42,6 @@ impl Row for AuthWtmArg {
 
     fn read(fields: &mut Reader<'_>) -> Option<AuthWtmArg> {
         let user = UserNumber::from_digits(fields.take_value(tags::USER)?)?;
-        // No plainer as one function with a closure, here and for the challenge below: the closure's meaning would have to
-        // be told in the contract, and these two arms would become a call with one.
         let unit = match fields.take_value(tags::UNIT) {
             None => None,
             Some(value) => Some(unit_in(value)?),
@@ -133,8 +130,7 @@ impl Row for Verdict {
     }
 }
 
-// One of unit and session, and not both. The same stands once more, for session and response: one function would take
-// two closures, and be no plainer than two arms.
+// One of unit and session, and not both.
 fn wtat_info_in(unit: Option<&[u8]>, session: Option<&[u8]>) -> Option<WtatInfo>
     ensures { result ≡ wtat_info (option_map (λ x. x.now) unit.entry) (option_map (λ x. x.now) session.entry) }
 {

@@ -12,10 +12,11 @@ use crate::apdus::{AuthSession, AuthUnit};
 use users::UserNumber;
 use wire::tags;
 
-// A lent buffer, and the place in it where the next field goes: answers stand in lent buffers, by a rule of the project.
+// A lent buffer, and the place in it where the next field goes: the caller lends the memory, so that writing cannot fail for
+// want of it.
 // What is known of a reference in a struct has to be said by each function that is lent the struct (`same_reference`),
 // and each asks for room of its own (`HasRoom`), so that neither is a fact of the type. What is written from several
-// places is `inline(always)`, so that a writer stays in registers: out of line, writing took more than a tenth longer.
+// places is `inline(always)`, so that a writer stays in registers.
 #[derive(Drop)]
 pub(crate) struct Writer<'a> {
     out: &'a mut [u8],

@@ -20,8 +20,7 @@ pub struct Fields {
     pub response: [u8; 4], // 0A
 }
 
-// All zero: no field is there. A derived Default was tried, and the proof did not close: its contract says of each array
-// only that its elements are 0.
+// All zero: no field is there.
 pub(crate) const BLANK: Fields = Fields {
     user: 0,
     present: 0,

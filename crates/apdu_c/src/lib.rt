@@ -16,8 +16,8 @@ use apdu::{Apdu, read, write};
 pub use fields::Fields;
 use refusal::Refusal;
 
-// Sets the struct to the fields of the APDU that the bytes are, and returns 0. Bytes that are no APDU
-// are garbled, also those that are due a reject, and leave the struct as it was.
+/// Sets the struct to the fields of the APDU that the bytes are, and returns 0. Bytes that are no APDU
+/// are garbled, also those that are due a reject, and leave the struct as it was.
 #[unsafe(no_mangle)]
 pub extern "C" fn apdu_read(bytes: &[u8], fields: &mut Fields) -> u8
     ensures value { result ≡ read_status (received_as bytes.now) }
@@ -45,9 +45,9 @@ fn write_fields(fields: &Fields, out: &mut [u8]) -> Result<usize, Refusal>
     write(&Apdu::try_from(fields)?, out)
 }
 
-// Writes the APDU that the fields make to the front of the buffer, whose rest stays as it was, sets
-// `used` to its length, and returns 0. A refusal leaves both as they were: a buffer under 64 bytes
-// is a short sheet, and else fields that make no APDU are garbled.
+/// Writes the APDU that the fields make to the front of the buffer, whose rest stays as it was, sets
+/// `used` to its length, and returns 0. A refusal leaves both as they were: a buffer under 64 bytes
+/// is a short sheet, and else fields that make no APDU are garbled.
 #[unsafe(no_mangle)]
 pub extern "C" fn apdu_write(fields: &Fields, out: &mut [u8], used: &mut usize) -> u8
     ensures value { result ≡ write_status (apdu_of fields.now) out.old }

@@ -1,4 +1,4 @@
-ghost use Rattle.std.specs.Prelude.{◌≡◌, ◌<◌, ◌≤◌, [], ◌∷◌, ◌++◌, length, take, drop, IfSome, nat_eq};
+ghost use Rattle.std.specs.Prelude.{◌≡◌, ◌<◌, ◌≤◌, [], ◌∷◌, ◌++◌, length, take, drop, IfSome, nat_eq, slice_set};
 ghost use Rattle.std.specs.List.{remove};
 ghost use Rattle.directory.specs.Contents.{contents, places, stored, vacated};
 ghost use Rattle.directory.specs.Found.{first_at, first_with};
@@ -8,9 +8,8 @@ ghost use Rattle.directory.specs.Changes.{added, taken_out, NeverTwoOfAKey, Free
 use crate::keyed::{Blank, Keyed, fetch, lookup};
 use refusal::Refusal;
 
-// The first `count` places are in use, and those behind them are free.
-// Slice and count are a rule of the project. A ghost field that bounds the count is no plainer: `stored` and `vacated` make
-// directories of the two fields, and would have to carry a proof of the bound.
+/// Records with keys of 64 bits in a slice that the caller lends, so that a directory asks for no memory. The first
+/// `count` places are in use, and those behind them are free.
 #[derive(Drop)]
 pub struct Directory<'a, R> {
     records: &'a mut [R],
@@ -18,7 +17,7 @@ pub struct Directory<'a, R> {
 }
 
 impl<'a, R> Directory<'a, R> {
-    // The records in use, in the order in which they were added.
+    /// The records in use, in the order in which they were added.
     pub fn used(&self) -> &[R]
         ensures { result.now ≡ contents self.now }
     {
@@ -27,7 +26,7 @@ impl<'a, R> Directory<'a, R> {
 }
 
 impl<'a, R: Keyed> Directory<'a, R> {
-    // An empty directory with the slice's places.
+    /// An empty directory with the slice's places.
     pub fn new(records: &'a mut [R]) -> Directory<'a, R>
         ensures list { contents result ≡ [] }
         ensures size { places result ≡ length records.old }
@@ -38,7 +37,7 @@ impl<'a, R: Keyed> Directory<'a, R> {
         Directory { records, count: 0 }
     }
 
-    // The place of the first record with the key.
+    /// The place of the first record with the key.
     pub fn find(&self, key: u64) -> Option<usize>
         ensures value { result ≡ first_at nat_eq R.keyed (contents self.now) key }
         ensures within { IfSome result (λ i. i < length (contents self.now)) }
@@ -46,6 +45,7 @@ impl<'a, R: Keyed> Directory<'a, R> {
         lookup(self.used(), key)
     }
 
+    /// Whether a record has the key.
     pub fn contains(&self, key: u64) -> bool
         ensures { result ≡ known nat_eq R.keyed (contents self.now) key }
     {
@@ -54,7 +54,7 @@ impl<'a, R: Keyed> Directory<'a, R> {
 }
 
 impl<'a, R: Keyed + Copy> Directory<'a, R> {
-    // The first record with the key.
+    /// The first record with the key.
     pub fn get(&self, key: u64) -> Option<R>
         ensures { result ≡ first_with nat_eq R.keyed (contents self.now) key }
     {
@@ -63,7 +63,8 @@ impl<'a, R: Keyed + Copy> Directory<'a, R> {
 }
 
 impl<'a, R: Keyed + Drop> Directory<'a, R> {
-    // Adds a record at the end. It refuses a key that is there, then a directory that is full, and a refusal changes nothing.
+    /// Adds a record at the end. It refuses a key that is there with 7, then a directory that is full with 8, and a refusal changes
+    /// nothing.
     pub fn add(&mut self, item: R) -> Result<(), Refusal>
         ensures answer { result ≡ add_answer nat_eq R.keyed (places self.old) (contents self.old) item }
         ensures list { contents self.new ≡ add_list nat_eq R.keyed (places self.old) (contents self.old) item }
@@ -93,9 +94,17 @@ impl<'a, R: Keyed + Drop> Directory<'a, R> {
         requires { self.old.count < places self.old }
         ensures { self.new ≡ stored self.old item }
     {
-        self.records[self.count] = item;
+        put_in(self.records, self.count, item);
         self.count += 1;
     }
+}
+
+// Puts a record in a place; what was there goes.
+fn put_in<R: Drop>(places: &mut [R], at: usize, item: R)
+    requires { at < length places.old }
+    ensures { places.new ≡ slice_set places.old at item }
+{
+    places[at] = item;
 }
 
 // Takes the record at a place out of the first ones, and moves those behind it one place down; a blank one goes where the last one was.
@@ -110,7 +119,8 @@ fn take_out<R: Drop>(places: &mut [R], at: usize, count: usize, blank: R)
 }
 
 impl<'a, R: Keyed + Blank + Drop> Directory<'a, R> {
-    // Removes the first record with the key, and frees its place. It refuses a key that no record has, and then nothing changes.
+    /// Removes the first record with the key, and frees its place. It refuses a key that no record has with 6, and then nothing
+    /// changes.
     pub fn remove(&mut self, key: u64) -> Result<(), Refusal>
         ensures answer { result ≡ remove_answer nat_eq R.keyed (contents self.old) key }
         ensures list { contents self.new ≡ remove_list nat_eq R.keyed (contents self.old) key }

@@ -1,7 +1,7 @@
 ghost use Rattle.std.specs.Prelude.{◌≡◌, ℕ, ◌<◌, length, IfSome, nat_eq};
 ghost use Rattle.directory.specs.Found.{first_at, first_with};
 
-// A record with a key.
+/// A record with a key.
 pub trait Keyed {
     ghost keyed: { Self → ℕ };
 
@@ -9,8 +9,7 @@ pub trait Keyed {
         ensures { result ≡ keyed self.now };
 }
 
-// A record type with a value that tells nothing: the place that removing frees holds it. No Default: of that
-// only a relation is known, and definitions have to name the one value.
+/// A record type with a value that tells nothing: the place that removing frees holds it.
 pub trait Blank {
     ghost blanked: { Self };
 
@@ -18,7 +17,7 @@ pub trait Blank {
         ensures { result ≡ blanked };
 }
 
-// The place of the first record with the key.
+/// The place of the first record with the key.
 pub fn lookup<R: Keyed>(records: &[R], key: u64) -> Option<usize>
     ensures value { result ≡ first_at nat_eq R.keyed records.now key }
     ensures within { IfSome result (λ i. i < length records.now) }
@@ -26,7 +25,7 @@ pub fn lookup<R: Keyed>(records: &[R], key: u64) -> Option<usize>
     records.iter().position(|item| item.key() == key)
 }
 
-// The first record with the key.
+/// The first record with the key.
 pub fn fetch<R: Keyed + Copy>(records: &[R], key: u64) -> Option<R>
     ensures { result ≡ first_with nat_eq R.keyed records.now key }
 {

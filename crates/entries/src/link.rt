@@ -9,8 +9,10 @@ ghost use Rattle.entries.specs.Link.{link_key, no_link, link_to, is_linked};
 use directory::{Blank, Directory, Keyed};
 use refusal::Refusal;
 
+/// A peer from which a delivery is taken, and to which an initiation may go.
 #[derive(Clone, Copy)]
 pub struct Link {
+    /// 1 to 255.
     pub peer: u8,
 }
 
@@ -42,7 +44,8 @@ impl Link {
     }
 }
 
-// Adds the link to a peer from 1 to 255.
+/// Adds the link to a peer. Refused with 4 for peer 0, with 7 where the peer is a link, with 8 where no place is free; a refusal
+/// changes nothing.
 pub fn add_link(links: &mut Directory<'_, Link>, peer: u8) -> Result<(), Refusal>
     ensures answer { result ≡ adding_answer link_key (places links.old) (contents links.old) (link_to peer) }
     ensures list { contents links.new ≡ adding_left link_key (places links.old) (contents links.old) (link_to peer) }
@@ -52,7 +55,7 @@ pub fn add_link(links: &mut Directory<'_, Link>, peer: u8) -> Result<(), Refusal
     links.add(Link::to(peer)?)
 }
 
-// Removes the link to a peer.
+/// Removes the link to a peer, and erases its place. Refused with 6 where the peer is no link; a refusal changes nothing.
 pub fn remove_link(links: &mut Directory<'_, Link>, peer: u8) -> Result<(), Refusal>
     ensures answer { result ≡ remove_answer nat_eq link_key (contents links.old) peer }
     ensures list { contents links.new ≡ remove_list nat_eq link_key (contents links.old) peer }
@@ -62,7 +65,7 @@ pub fn remove_link(links: &mut Directory<'_, Link>, peer: u8) -> Result<(), Refu
     links.remove(u64::from(peer))
 }
 
-// Whether a peer is among the links.
+/// Whether a peer is among the links.
 pub fn is_link(links: &Directory<'_, Link>, peer: u8) -> bool
     ensures { result ≡ is_linked (contents links.now) peer }
 {

@@ -10,10 +10,10 @@ use refusal::Refusal;
 use users::UserNumber;
 use wire::UnknownNumber;
 
-// The key that authenticates a user.
+/// The key that authenticates a user: 16 bytes that its terminal has too.
 pub type UserKey = [u8; 16];
 
-// Where the parameters of a user are.
+/// Where the parameters of a user are.
 #[derive(Clone, Copy, PartialEq, Eq, Debug)]
 pub enum KeyPlace {
     NoParameters = 0,
@@ -44,7 +44,7 @@ impl TryFrom<u8> for KeyPlace {
     }
 }
 
-// It has no Debug, so that its key is never written by one.
+/// A user, where its parameters are, and its key. It has no Debug, so that its key is never written by one.
 #[derive(Clone, Copy)]
 pub struct Subscriber {
     pub user: UserNumber,
@@ -87,7 +87,8 @@ impl Subscriber {
     }
 }
 
-// Adds a subscriber.
+/// Adds a subscriber. Refused with 4 where the digits write no user number or the place is above 2, with 7 where the user is
+/// there, with 8 where no place is free; a refusal changes nothing.
 pub fn add_subscriber(
     subscribers: &mut Directory<'_, Subscriber>,
     digits: &[u8],
@@ -102,7 +103,8 @@ pub fn add_subscriber(
     subscribers.add(Subscriber::new(digits, place, user_key)?)
 }
 
-// Removes the subscriber with some digits, and erases its key.
+/// Removes the subscriber with some digits, and erases its key. Refused with 4 where the digits write no user number, with 6
+/// where the user is not there; a refusal changes nothing.
 pub fn remove_subscriber(
     subscribers: &mut Directory<'_, Subscriber>,
     digits: &[u8],

@@ -1,12 +1,9 @@
--- Of the dialogues that have ended, the fold over the places finds the one that precedes every other. Assumes nothing.
+-- Of the dialogues that have ended, the fold over the places finds the one that ends first. Assumes nothing.
 use Rattle.std.proofs.Common.{◌≡◌, ℕ, ◌+◌, ◌<◌, ◌≤◌, true, false, cond, leb, ◌⊎◌, List, [], ◌∷◌, length, IfSome, Some, None, Ok, Option, Result, sym, refl, ap, ◌∙◌, subst, inl, inr, ⊎_elim, arith}
-use Rattle.std.proofs.lemmas.Bool.{cond_both, le-leb, leb-true, leb-false}
+use Rattle.std.proofs.lemmas.Bool.{cond_both, leb-true, leb-false}
 use Rattle.std.proofs.lemmas.Bool.Decides.{nat_tests}
-use Rattle.std.specs.Option.{ForSome}
 use Rattle.refusal.specs.declared.Refusal.{Refusal}
-use Rattle.wire.specs.declared.codes.ErrorCode.{ErrorCode}
 use Rattle.apdu.specs.declared.apdus.Body.{Body}
-use Rattle.apdu.specs.declared.apdus.Body.TheVariants.{ReturnError}
 use Rattle.apdu.specs.Encode.{encode}
 use Rattle.exchange.specs.declared.dialogue.Dialogue.{Dialogue}
 use Rattle.exchange.specs.declared.dialogue.Notice.{Notice}
@@ -18,24 +15,27 @@ use Rattle.exchange.specs.declared.outcome.Done.{Done}
 use Rattle.exchange.specs.declared.outcome.Done.TheVariants.{Sent, Reported}
 use Rattle.exchange.specs.declared.outcome.Report.{Report}
 use Rattle.exchange.specs.declared.service.Service.{Service}
-use Rattle.exchange.specs.Calls.{After, CanTell, told}
+use Rattle.exchange.specs.Calls.{After, told}
 use Rattle.exchange.specs.Dialogue.{settled, expired}
-use Rattle.exchange.specs.Service.{Sound}
 use Rattle.exchange.specs.State.{owed_by}
-use Rattle.exchange.specs.Table.{Has, ends_by, earlier, sooner, soonest, first_ended}
-use Rattle.exchange.specs.Laws.{Precedes, NoneEnded, EndsFirst, Earliest}
+use Rattle.exchange.specs.Table.{Has, ends_by, ends_before, first_of_two, first_to_end_from, first_to_end}
+use Rattle.exchange.specs.Laws.{NoneEnded, EndsFirst, Earliest}
 
-precedes_itself : (d : Dialogue) → Precedes d d
-precedes_itself d = inr (refl, omega arith)
+-- d ends before e, or with it where its name is no higher
+abbrev NoLater : Dialogue → Dialogue → Type 0
+NoLater d e = (d.ends < e.ends) ⊎ ((d.ends ≡ e.ends) × (d.name.0 ≤ e.name.0))
 
-precedes_further : (a b c : Dialogue) → Precedes a b → Precedes b c → Precedes a c
-precedes_further a b c p q = grind arith
+no_later_itself : (d : Dialogue) → NoLater d d
+no_later_itself d = inr (refl, omega arith)
 
-earlier_precedes : (a b : Dialogue) → earlier a b ≡ true → Precedes a b
-earlier_precedes a b e = grind (arith, nat_tests)
+no_later_further : (a b c : Dialogue) → NoLater a b → NoLater b c → NoLater a c
+no_later_further a b c p q = grind arith
 
-else_precedes : (a b : Dialogue) → earlier a b ≡ false → Precedes b a
-else_precedes a b e = grind (arith, nat_tests)
+ends_before_no_later : (a b : Dialogue) → ends_before a b ≡ true → NoLater a b
+ends_before_no_later a b e = grind (arith, nat_tests)
+
+else_no_later : (a b : Dialogue) → ends_before a b ≡ false → NoLater b a
+else_no_later a b e = grind (arith, nat_tests)
 
 -- the dialogue of the best so far, as at a place
 abbrev slot_of : Option (ℕ × Dialogue) → Option Dialogue
@@ -46,21 +46,21 @@ module _ (reading : ℕ) where
   -- what was found is the first to end of the dialogues at these places
   abbrev Finds : List (Option Dialogue) → Option (ℕ × Dialogue) → Type 0
   Finds slots None = NoneEnded reading slots
-  Finds slots (Some (place, d)) = EndsFirst reading slots d
+  Finds slots (Some (place, d)) = Has d slots × (d.ends ≤ reading) × ((e : Dialogue) → Has e slots → NoLater d e)
 
   abbrev Ended : Option (ℕ × Dialogue) → Type 0
   Ended best = IfSome best (λ p. p.1.ends ≤ reading)
 
-  -- e has not ended by the reading, or a dialogue at these places precedes it
+  -- e has not ended by the reading, or one at these places ends no later
   abbrev Later : List (Option Dialogue) → Dialogue → Type 0
-  Later slots e = (reading < e.ends) ⊎ ((d : Dialogue) × Has d slots × Precedes d e)
+  Later slots e = (reading < e.ends) ⊎ ((d : Dialogue) × Has d slots × NoLater d e)
 
   -- what is found at the places xs is found at ys too, where ys has the dialogues of xs and, beside them, only later ones
   finds_more : (xs ys : List (Option Dialogue)) (found : Option (ℕ × Dialogue)) → ((d : Dialogue) → Has d xs → Has d ys) → ((e : Dialogue) → Has e ys → Later xs e) → Finds xs found → Finds ys found
   finds_more xs ys None has later h =
       λ e m. ⊎_elim (λ l. l) (λ p. let k = h p.0 p.1 in let q = p.2 in grind arith) (later e m)
   finds_more xs ys (Some (place, d)) has later h =
-      (has d h.0, h.1, λ e m. ⊎_elim (λ l. inl (omega (arith, h.1))) (λ p. precedes_further d p.0 e (h.2 p.0 p.1) p.2) (later e m))
+      (has d h.0, h.1, λ e m. ⊎_elim (λ l. inl (omega (arith, h.1))) (λ p. no_later_further d p.0 e (h.2 p.0 p.1) p.2) (later e m))
 
 module _ (reading : ℕ) (ss : List (Option Dialogue)) where
   -- the dialogue at y, if there is one, is later than the one at x or one of the rest
@@ -68,12 +68,12 @@ module _ (reading : ℕ) (ss : List (Option Dialogue)) where
   SlotLater x y = (e : Dialogue) → y ≡ Some e → Later reading (x ∷ ss) e
 
   later_itself : (x : Option Dialogue) → SlotLater x x
-  later_itself x e p = inr (e, inl p, precedes_itself e)
+  later_itself x e p = inr (e, inl p, no_later_itself e)
 
   free_later : (x : Option Dialogue) → SlotLater x None
   free_later x e p = cc
 
-  other_later : (a b : Dialogue) → Precedes a b → SlotLater (Some a) (Some b)
+  other_later : (a b : Dialogue) → NoLater a b → SlotLater (Some a) (Some b)
   other_later a b h e p = let q : b ≡ e = cc in inr (a, inl refl, rw q at h)
 
   running_later : (x : Option Dialogue) (d : Dialogue) → reading < d.ends → SlotLater x (Some d)
@@ -84,53 +84,57 @@ module _ (reading : ℕ) (ss : List (Option Dialogue)) where
   finds_both x y z found is hy hz =
       finds_more reading (x ∷ ss) (y ∷ z ∷ ss) found
       (λ d. ⊎_elim (λ p. ⊎_elim (λ q. inl (sym q ∙ p)) (λ q. inr (inl (sym q ∙ p))) is) (λ m. inr (inr m)))
-      (λ e. ⊎_elim (hy e) (⊎_elim (hz e) (λ m. inr (e, inr m, precedes_itself e))))
+      (λ e. ⊎_elim (hy e) (⊎_elim (hz e) (λ m. inr (e, inr m, no_later_itself e))))
 
   -- one turn of the fold: the new best has ended, and what is found with it is found with the old best and the slot
   abbrev Turn : Option (ℕ × Dialogue) → Option Dialogue → Option (ℕ × Dialogue) → Type 0
   Turn best s new = Ended reading new × ((found : Option (ℕ × Dialogue)) → Finds reading (slot_of new ∷ ss) found → Finds reading (slot_of best ∷ s ∷ ss) found)
 
-  turn_sooner : (i : ℕ) (d : Dialogue) (best : Option (ℕ × Dialogue)) → d.ends ≤ reading → Ended reading best → Turn best (Some d) (sooner i (Some d) best)
-  turn_sooner i d None h k = (h, λ found. finds_both (Some d) None (Some d) found (inr refl) (free_later (Some d)) (later_itself (Some d)))
-  turn_sooner i d (Some (j, b)) h k =
-      cond_both (earlier d b) _ _ (Turn (Some (j, b)) (Some d))
-      (λ t. (h, λ found. finds_both (Some d) (Some b) (Some d) found (inr refl) (other_later d b (earlier_precedes d b t)) (later_itself (Some d))))
-      (λ t. (k, λ found. finds_both (Some b) (Some b) (Some d) found (inl refl) (later_itself (Some b)) (other_later b d (else_precedes d b t))))
+  turn_first : (i : ℕ) (d : Dialogue) (best : Option (ℕ × Dialogue)) → d.ends ≤ reading → Ended reading best → Turn best (Some d) (first_of_two i (Some d) best)
+  turn_first i d None h k = (h, λ found. finds_both (Some d) None (Some d) found (inr refl) (free_later (Some d)) (later_itself (Some d)))
+  turn_first i d (Some (j, b)) h k =
+      cond_both (ends_before d b) _ _ (Turn (Some (j, b)) (Some d))
+      (λ t. (h, λ found. finds_both (Some d) (Some b) (Some d) found (inr refl) (other_later d b (ends_before_no_later d b t)) (later_itself (Some d))))
+      (λ t. (k, λ found. finds_both (Some b) (Some b) (Some d) found (inl refl) (later_itself (Some b)) (other_later b d (else_no_later d b t))))
 
-  turn : (i : ℕ) (s : Option Dialogue) (best : Option (ℕ × Dialogue)) → Ended reading best → Turn best s (cond (ends_by reading s) (sooner i s best) best)
+  turn : (i : ℕ) (s : Option Dialogue) (best : Option (ℕ × Dialogue)) → Ended reading best → Turn best s (cond (ends_by reading s) (first_of_two i s best) best)
   turn i None best k = (k, λ found. finds_both (slot_of best) (slot_of best) None found (inl refl) (later_itself (slot_of best)) (free_later (slot_of best)))
   turn i (Some d) best k =
       cond_both (leb d.ends reading) _ _ (Turn best (Some d))
-      (λ t. turn_sooner i d best (leb-true d.ends reading t) k)
+      (λ t. turn_first i d best (leb-true d.ends reading t) k)
       (λ t. (k, λ found. finds_both (slot_of best) (slot_of best) (Some d) found (inl refl) (later_itself (slot_of best)) (running_later (slot_of best) d (leb-false d.ends reading t))))
 
-soonest_finds : (reading : ℕ) (ss : List (Option Dialogue)) (i : ℕ) (best : Option (ℕ × Dialogue)) → Ended reading best → Finds reading (slot_of best ∷ ss) (soonest reading i best ss)
-soonest_finds reading [] i None k = λ e. ⊎_elim (λ p. cc) absurd
-soonest_finds reading [] i (Some (j, b)) k = (inl refl, k, λ e. ⊎_elim (λ p. let q : b ≡ e = cc in rw q (precedes_itself e)) absurd)
-soonest_finds reading (s ∷ ss) i best k = let t = turn reading ss i s best k in t.1 _ (soonest_finds reading ss (i + 1) _ t.0)
+first_from_finds : (reading : ℕ) (ss : List (Option Dialogue)) (i : ℕ) (best : Option (ℕ × Dialogue)) → Ended reading best → Finds reading (slot_of best ∷ ss) (first_to_end_from reading i best ss)
+first_from_finds reading [] i None k = λ e. ⊎_elim (λ p. cc) absurd
+first_from_finds reading [] i (Some (j, b)) k = (inl refl, k, λ e. ⊎_elim (λ p. let q : b ≡ e = cc in rw q (no_later_itself e)) absurd)
+first_from_finds reading (s ∷ ss) i best k = let t = turn reading ss i s best k in t.1 _ (first_from_finds reading ss (i + 1) _ t.0)
 
-first_ended_finds : (reading : ℕ) (slots : List (Option Dialogue)) → Finds reading slots (first_ended reading slots)
-first_ended_finds reading slots =
-    finds_more reading (None ∷ slots) slots (first_ended reading slots)
+first_to_end_finds : (reading : ℕ) (slots : List (Option Dialogue)) → Finds reading slots (first_to_end reading slots)
+first_to_end_finds reading slots =
+    finds_more reading (None ∷ slots) slots (first_to_end reading slots)
     (λ d. ⊎_elim (λ p. cc) (λ m. m))
-    (λ e m. inr (e, inr m, precedes_itself e))
-    (soonest_finds reading slots 0 None tt)
+    (λ e m. inr (e, inr m, no_later_itself e))
+    (first_from_finds reading slots 0 None tt)
 
-pub first_ended_is : (reading : ℕ) (slots : List (Option Dialogue)) (found : Option (ℕ × Dialogue)) → first_ended reading slots ≡ found → Finds reading slots found
-first_ended_is reading slots found e = subst (Finds reading slots) e (first_ended_finds reading slots)
+-- what ends first, in the words of the law
+as_law : (reading : ℕ) (slots : List (Option Dialogue)) (place : ℕ) (d : Dialogue) → Finds reading slots (Some (place, d)) → EndsFirst reading slots d
+as_law reading slots place d h = (h.0, h.1, λ e m b. let n = h.2 e m in ⊎_elim (λ p. ⊎_elim (λ q. omega arith) (λ q. omega (arith, q.0)) n) (λ p. ⊎_elim (λ q. omega (arith, p.0)) (λ q. omega (arith, p.1, q.1)) n) b)
+
+pub first_to_end_is : (reading : ℕ) (slots : List (Option Dialogue)) (found : Option (ℕ × Dialogue)) → first_to_end reading slots ≡ found → Finds reading slots found
+first_to_end_is reading slots found e = subst (Finds reading slots) e (first_to_end_finds reading slots)
 
 -- what is told of the dialogue that ends first
-module _ (reading : ℕ) (s : Service) (place : ℕ) (d : Dialogue) (found : first_ended reading s.dialogues ≡ Some (place, d)) where
+module _ (reading : ℕ) (s : Service) (place : ℕ) (d : Dialogue) (found : first_to_end reading s.dialogues ≡ Some (place, d)) where
   settled_first : (t u : Service) (out left : List ℕ) (done : Done) (b : Body) (r : Report) (o : Option Owed) → owed_by d.state ≡ o → record { result = Ok done; service = u; buffer = left } ≡ told t d.name (settled o b r) out → Earliest s reading (Ok done)
   settled_first t u out left done b r None e h =
       let k : ◌≡◌ {A = Result Done Refusal} (Ok done) (Ok (Reported d.name r)) = ap (λ (a : After). a.result) h in
       let is : Reported d.name r ≡ done = cc in
-      subst (λ (x : Done). Earliest s reading (Ok x)) is (d, (e, refl), first_ended_is reading s.dialogues _ found)
+      subst (λ (x : Done). Earliest s reading (Ok x)) is (d, (e, refl), as_law reading s.dialogues place d (first_to_end_is reading s.dialogues _ found))
   settled_first t u out left done b r (Some owed) e h =
       let size : ℕ = length (encode (record { id = owed.id.0; body = b })) in
       let k : ◌≡◌ {A = Result Done Refusal} (Ok done) (Ok (Sent owed.peer size)) = ap (λ (a : After). a.result) h in
       let is : Sent owed.peer size ≡ done = cc in
-      subst (λ (x : Done). Earliest s reading (Ok x)) is (d, (owed, e, refl), first_ended_is reading s.dialogues _ found)
+      subst (λ (x : Done). Earliest s reading (Ok x)) is (d, (owed, e, refl), as_law reading s.dialogues place d (first_to_end_is reading s.dialogues _ found))
 
   pub told_first : (t u : Service) (out left : List ℕ) (done : Done) (name : OwnNumber) (n : Notice) → name ≡ d.name → n ≡ expired d.state → record { result = Ok done; service = u; buffer = left } ≡ told t name n out → Earliest s reading (Ok done)
   told_first t u out left done name n is_name is_notice h =
@@ -141,11 +145,3 @@ module _ (reading : ℕ) (s : Service) (place : ℕ) (d : Dialogue) (found : fir
 -- a step that closes, and leaves the dialogue as it was
 pub closing : (d left : Dialogue) (step : Step) (n m : Notice) → ◌≡◌ {A = Step × Dialogue} (step, left) (Closes m, d) → step ≡ Closes n → (left.name ≡ d.name) × (n ≡ m)
 closing d left step n m e is = let first : step ≡ Closes m = ap (λ (p : Step × Dialogue). p.0) e in (ap (λ (p : Step × Dialogue). p.1.name) e, cc)
-
-settled_right : (o : Option Owed) (e : ErrorCode) (r : Report) → ForSome o (λ owed. 1 ≤ owed.id.0) → CanTell (settled o (ReturnError e) r)
-settled_right None e r h = tt
-settled_right (Some owed) e r h = rw (le-leb 1 owed.id.0 (h owed refl)) refl
-
--- what is told of it is right for the writer, where what is owed can be answered
-pub expired_right : (reading : ℕ) (s : Service) (place : ℕ) (d : Dialogue) → Sound s → first_ended reading s.dialogues ≡ Some (place, d) → CanTell (expired d.state)
-expired_right reading s place d sound found = settled_right (owed_by d.state) _ _ (sound.2 d (first_ended_is reading s.dialogues _ found).0)

@@ -17,15 +17,16 @@ use Rattle.exchange.specs.declared.dialogue.Notice.TheVariants as notice
 use Rattle.exchange.specs.declared.numbers.Asked.{Asked}
 use Rattle.exchange.specs.declared.numbers.OwnNumber.{OwnNumber}
 use Rattle.exchange.specs.declared.state.State.{State}
-use Rattle.exchange.specs.declared.state.State.TheVariants.{F, I, R, N}
+use Rattle.exchange.specs.declared.state.State.TheVariants.{FetchingForInitiation, Initiating, Requesting, RequestingProof}
 use Rattle.entries.specs.declared.link.Link.{Link}
 use Rattle.exchange.specs.declared.outcome.Done.{Done}
 use Rattle.exchange.specs.declared.outcome.Done.TheVariants.{Quiet, Sent, Reported}
 use Rattle.exchange.specs.declared.service.Service.{Service}
 use Rattle.exchange.specs.Dialogue.{expired}
+use Rattle.exchange.specs.Numbers.{asking}
 use Rattle.entries.specs.Link.{is_linked}
-use Rattle.exchange.specs.Service.{by, timely, ready, room, asking, opened, read_at, closed}
-use Rattle.exchange.specs.Table.{first_ended}
+use Rattle.exchange.specs.Service.{by, timely, ready, room, opened, read_at, closed}
+use Rattle.exchange.specs.Table.{first_to_end}
 
 -- the answer, the exchange and the buffer at the return
 pub record After : Type 0 where
@@ -56,7 +57,7 @@ dialled digits peer links = by (user_of digits) (λ user. cond (is_linked links 
 -- a dialogue opens in a state, and its invoke goes to a peer, both under the next number
 abbrev pub asks : Service → ℕ → ℕ → (Asked → State) → ℕ → operations.Invoke → List ℕ → After
 asks s reading place state peer invoke out =
-    sends (opened s reading place (state (asking s peer))) peer (record { id = s.next; body = Invoke invoke }) out
+    sends (opened s reading place (state (asking s.next peer))) peer (record { id = s.next.0; body = Invoke invoke }) out
 
 -- a peer is asked to authenticate a user, without a unit
 abbrev pub initiated : Service → ℕ → List ℕ → ℕ → List Link → List ℕ → After
@@ -64,7 +65,7 @@ initiated s reading digits peer links out =
     checked s out (ready s reading (length out)) λ _.
     checked s out (dialled digits peer links) λ user.
     checked s out (room s) λ place.
-    asks s reading place I peer (AuthWtmUser (record { user = user; unit = None })) out
+    asks s reading place Initiating peer (AuthWtmUser (record { user = user; unit = None })) out
 
 -- the server is asked for a unit, which a later invoke is to bring to the peer
 abbrev pub initiated_with_values : Service → ℕ → List ℕ → ℕ → List Link → List ℕ → After
@@ -72,7 +73,7 @@ initiated_with_values s reading digits peer links out =
     checked s out (ready s reading (length out)) λ _.
     checked s out (dialled digits peer links) λ user.
     checked s out (room s) λ place.
-    asks s reading place (λ asked. F asked user peer) s.fit.server (WtatParamEnq (record { user = user; challenge = None; computes = false })) out
+    asks s reading place (λ asked. FetchingForInitiation asked user peer) s.fit.server (WtatParamEnq (record { user = user; challenge = None; computes = false })) out
 
 -- Home is asked for a unit, or for a session where this exchange can compute
 abbrev pub visitor_started : Service → ℕ → List ℕ → List ℕ → After
@@ -80,7 +81,7 @@ visitor_started s reading digits out =
     checked s out (ready s reading (length out)) λ _.
     checked s out (user_of digits) λ user.
     checked s out (room s) λ place.
-    asks s reading place (λ asked. R asked None s.fit.can_compute) s.fit.home (GetWtatParam (record { user = user; challenge = None; computes = s.fit.can_compute })) out
+    asks s reading place (λ asked. Requesting asked None s.fit.can_compute) s.fit.home (GetWtatParam (record { user = user; challenge = None; computes = s.fit.can_compute })) out
 
 -- a terminal's challenge has 8 bytes
 abbrev pub challenge_of : List ℕ → Result (List ℕ) Refusal
@@ -93,7 +94,7 @@ proof_requested s reading digits challenge number out =
     checked s out (user_of digits) λ user.
     checked s out (challenge_of challenge) λ c.
     checked s out (room s) λ place.
-    asks s reading place (λ asked. N asked s.fit.can_compute c) s.fit.home
+    asks s reading place (λ asked. RequestingProof asked s.fit.can_compute c) s.fit.home
     (GetWtanParam (record { user = user; computes = s.fit.can_compute; challenge = c; algorithm = number })) out
 
 -- nothing is sent or reported
@@ -115,7 +116,7 @@ clocked_by s reading out None = quiet s reading out
 clocked_by s reading out (Some (place, d)) = told (closed s place) d.name (expired d.state) out
 
 abbrev pub clocked : Service → ℕ → List ℕ → After
-clocked s reading out = checked s out (timely s reading (length out)) (λ _. clocked_by s reading out (first_ended reading s.dialogues))
+clocked s reading out = checked s out (timely s reading (length out)) (λ _. clocked_by s reading out (first_to_end reading s.dialogues))
 
 -- a refusal leaves the service and the buffer as they were
 abbrev pub Unchanged : Result Done Refusal → Service → Service → List ℕ → List ℕ → Type 0

@@ -8,7 +8,7 @@ use Rattle.exchange.specs.declared.in_service.Exchange.{Exchange}
 use Rattle.exchange.specs.FitOut.{fitted}
 
 abbrev pub fresh : FitOut → Service
-fresh f = record { fit = f; last = 0; next = 1; dialogues = replicate 32 None }
+fresh f = record { fit = f; last = 0; next = record { 0 = 1 }; dialogues = replicate 32 None }
 
 abbrev pub entered : FitOut → Result Service Refusal
 entered f = cond (fitted f) (Ok (fresh f)) (Err Misfitted)

@@ -9,17 +9,17 @@ use Rattle.exchange.specs.declared.service.Service.{Service}
 use Rattle.exchange.specs.State.{owed_by}
 use Rattle.exchange.specs.Table.{Has}
 
--- d's timer ends before e's, or with it where d's name is no higher
-abbrev pub Precedes : Dialogue → Dialogue → Type 0
-Precedes d e = (d.ends < e.ends) ⊎ ((d.ends ≡ e.ends) × (d.name.0 ≤ e.name.0))
+-- a's timer ends before b's, or with it where a has the lower name
+abbrev pub EndsBefore : Dialogue → Dialogue → Type 0
+EndsBefore a b = (a.ends < b.ends) ⊎ ((a.ends ≡ b.ends) × (a.name.0 < b.name.0))
 
 -- no timer has ended by the reading
 abbrev pub NoneEnded : ℕ → List (Option Dialogue) → Type 0
 NoneEnded reading slots = (e : Dialogue) → Has e slots → reading < e.ends
 
--- d's timer has ended by the reading, and d precedes every dialogue of the table
+-- d's timer has ended by the reading, and no dialogue of the table ends before d
 abbrev pub EndsFirst : ℕ → List (Option Dialogue) → Dialogue → Type 0
-EndsFirst reading slots d = Has d slots × (d.ends ≤ reading) × ((e : Dialogue) → Has e slots → Precedes d e)
+EndsFirst reading slots d = Has d slots × (d.ends ≤ reading) × ((e : Dialogue) → Has e slots → ¬ (EndsBefore e d))
 
 -- what clock tells when it closes d: what is owed is answered, and otherwise d is reported
 abbrev pub Tells : Dialogue → Done → Type 0

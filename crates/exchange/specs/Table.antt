@@ -1,7 +1,11 @@
 -- The places for dialogues.
-use Rattle.std.specs.Prelude.{◌≡◌, ℕ, ◌+◌, ◌⊎◌, Bool, true, false, cond, ◌&&◌, ◌||◌, List, [], ◌∷◌, Some, None, Option, ◌==◌, nat_le, nat_lt, position}
-use Rattle.exchange.specs.declared.dialogue.Dialogue.{Dialogue}
+use Rattle.std.specs.Prelude.{◌≡◌, ℕ, ◌+◌, ◌⊎◌, Bool, true, false, cond, not, ◌&&◌, ◌||◌, List, [], ◌∷◌, Some, None, Option, ◌==◌, nat_le, nat_lt, position, slice_index_or}
 use Rattle.std.specs.List.{list_any}
+use Rattle.std.specs.Option.{option_map}
+use Rattle.users.specs.declared.UserNumber.{UserNumber}
+use Rattle.exchange.specs.declared.dialogue.Dialogue.{Dialogue}
+use Rattle.exchange.specs.declared.numbers.OwnNumber.{OwnNumber}
+use Rattle.exchange.specs.State.{owed_by, asked_by, is_owed_to, is_asked_of, is_at_terminal, named_in}
 
 -- a dialogue stands in one of the places
 abbrev pub Has : Dialogue → List (Option Dialogue) → Type 0
@@ -26,20 +30,63 @@ abbrev pub free_place : List (Option Dialogue) → Option ℕ
 free_place slots = position is_free slots
 
 -- a's timer ends before b's, or with it where a has the lower name
-abbrev pub earlier : Dialogue → Dialogue → Bool
-earlier a b = nat_lt a.ends b.ends || (a.ends == b.ends && nat_lt a.name.0 b.name.0)
+abbrev pub ends_before : Dialogue → Dialogue → Bool
+ends_before a b = nat_lt a.ends b.ends || (a.ends == b.ends && nat_lt a.name.0 b.name.0)
 
--- the sooner to end of what stands at place i and the best so far
-abbrev pub sooner : ℕ → Option Dialogue → Option (ℕ × Dialogue) → Option (ℕ × Dialogue)
-sooner i None best = best
-sooner i (Some d) None = Some (i, d)
-sooner i (Some d) (Some (j, b)) = cond (earlier d b) (Some (i, d)) (Some (j, b))
+-- of what stands at place i and the best so far, the one that ends first
+abbrev pub first_of_two : ℕ → Option Dialogue → Option (ℕ × Dialogue) → Option (ℕ × Dialogue)
+first_of_two i None best = best
+first_of_two i (Some d) None = Some (i, d)
+first_of_two i (Some d) (Some (j, b)) = cond (ends_before d b) (Some (i, d)) (Some (j, b))
 
--- the soonest of those from place i on that have ended, and the best so far
-abbrev pub soonest : ℕ → ℕ → Option (ℕ × Dialogue) → List (Option Dialogue) → Option (ℕ × Dialogue)
-soonest reading i best [] = best
-soonest reading i best (s ∷ ss) = soonest reading (i + 1) (cond (ends_by reading s) (sooner i s best) best) ss
+-- the first to end of those from place i on that have ended, and the best so far
+abbrev pub first_to_end_from : ℕ → ℕ → Option (ℕ × Dialogue) → List (Option Dialogue) → Option (ℕ × Dialogue)
+first_to_end_from reading i best [] = best
+first_to_end_from reading i best (s ∷ ss) = first_to_end_from reading (i + 1) (cond (ends_by reading s) (first_of_two i s best) best) ss
 
 -- of the dialogues whose timer ends at or before the reading, the one whose timer ends first, and its place
-abbrev pub first_ended : ℕ → List (Option Dialogue) → Option (ℕ × Dialogue)
-first_ended reading slots = soonest reading 0 None slots
+abbrev pub first_to_end : ℕ → List (Option Dialogue) → Option (ℕ × Dialogue)
+first_to_end reading slots = first_to_end_from reading 0 None slots
+
+-- it owes an answer to a peer under the peer's id
+abbrev pub owes : ℕ → ℕ → Option Dialogue → Bool
+owes peer id None = false
+owes peer id (Some d) = is_owed_to peer id (owed_by d.state)
+
+-- it awaits an answer from a peer under our id
+abbrev pub awaits : ℕ → ℕ → Option Dialogue → Bool
+awaits peer id None = false
+awaits peer id (Some d) = is_asked_of peer id (asked_by d.state)
+
+-- it is at the terminal, under a name
+abbrev pub awaits_reply : OwnNumber → Option Dialogue → Bool
+awaits_reply name None = false
+awaits_reply name (Some d) = is_at_terminal d.state && (d.name.0 == name.0)
+
+-- what stands at a place, and the place
+abbrev pub standing_at : List (Option Dialogue) → Option ℕ → Option (ℕ × Dialogue)
+standing_at slots None = None
+standing_at slots (Some place) = option_map (λ d. (place, d)) (slice_index_or slots place None)
+
+-- the first dialogue that passes a test, and its place
+abbrev pub found : (Option Dialogue → Bool) → List (Option Dialogue) → Option (ℕ × Dialogue)
+found test slots = standing_at slots (position test slots)
+
+-- how many numbers a dialogue with this user to name may still take
+abbrev pub one_more : Option UserNumber → ℕ
+one_more None = 0
+one_more (Some user) = 1
+
+abbrev pub to_take : Option Dialogue → ℕ
+to_take None = 0
+to_take (Some d) = one_more (named_in d.state)
+
+-- it has a name
+abbrev pub is_named : OwnNumber → Option Dialogue → Bool
+is_named name None = false
+is_named name (Some d) = d.name.0 == name.0
+
+-- what stood at a place has left the table: its name is in none of these places
+abbrev pub has_left : List (Option Dialogue) → Option Dialogue → Bool
+has_left slots None = false
+has_left slots (Some d) = not (list_any (is_named d.name) slots)

@@ -1,7 +1,11 @@
 // A dialogue and its step.
 ghost use Rattle.std.specs.Prelude.{◌≡◌, ◌^◌, ◌≤◌, Some};
-ghost use Rattle.exchange.specs.Table.{ends_by, earlier};
-ghost use Rattle.exchange.specs.Dialogue.{sent, answer, authenticate, settled, verdict_on, goes_on, challenged, stepped};
+ghost use Rattle.exchange.specs.Table.{ends_by, ends_before, awaits_reply, one_more};
+ghost use Rattle.exchange.specs.declared.dialogue.Step.TheVariants.{Stray};
+ghost use Rattle.exchange.specs.Able.{CanMove, BringsResult};
+ghost use Rattle.exchange.specs.Service.{CanGoOn};
+ghost use Rattle.exchange.specs.State.{named_in};
+ghost use Rattle.exchange.specs.Dialogue.{sent, answer, invoked, authenticate, settled, verdict_on, goes_on, challenged, stepped};
 
 use crate::fit_out::FitOut;
 use crate::numbers::{Asked, Owed, OwnNumber};
@@ -15,13 +19,16 @@ use apdu::{
 };
 use wire::{ErrorCode, Verdict};
 
+/// One authentication under way.
 #[derive(Clone, Copy)]
 pub struct Dialogue {
+    /// The number under which it was opened, 1 to 60,000. It keeps it.
     pub name: OwnNumber,
-    // The reading at which it was opened.
+    /// The reading at which it was opened, in milliseconds.
     pub opened: u64,
-    // The reading at which its timer ends.
+    /// The reading at which its timer ends, in milliseconds.
     pub ends: u64,
+    /// What it awaits and what it owes.
     pub state: State,
 }
 
@@ -80,13 +87,19 @@ impl Owed {
 }
 
 impl Asked {
+    // An invoke of ours to the peer that is asked.
+    pub(crate) fn invoke(&self, invoke: Invoke) -> Notice
+        ensures { result ≡ invoked self.now invoke }
+    {
+        Notice::send(self.peer, self.id.0, Body::Invoke(invoke))
+    }
+
     // The invoke that asks a peer to authenticate a user, with a unit.
     fn authenticate(&self, user: UserNumber, unit: AuthUnit) -> Notice
         ensures { result ≡ authenticate self.now user unit }
     {
         let unit = Some(unit);
-        let body = Body::Invoke(Invoke::AuthWtmUser(AuthWtmArg { user, unit }));
-        Notice::send(self.peer, self.id.0, body)
+        self.invoke(Invoke::AuthWtmUser(AuthWtmArg { user, unit }))
     }
 }
 
@@ -121,9 +134,16 @@ impl Dialogue {
 
     // Whether its timer ends before the other's, or with it where it has the lower name.
     pub(crate) fn ends_before(&self, other: &Dialogue) -> bool
-        ensures { result ≡ earlier self.now other.now }
+        ensures { result ≡ ends_before self.now other.now }
     {
         (self.ends, self.name) < (other.ends, other.name)
+    }
+
+    // Whether its terminal is to reply under this name.
+    pub(crate) fn awaits_reply(&self, name: OwnNumber) -> bool
+        ensures { result ≡ awaits_reply name (Some self.now) }
+    {
+        self.state.is_at_terminal() && self.name == name
     }
 
     // Goes on in a state, whose timer starts.
@@ -147,11 +167,12 @@ impl Dialogue {
         ensures { (result, self.new) ≡ challenged fit.now reading self.old owed unit.challenge unit.response }
     {
         let expected = unit.response;
-        self.go_on(State::X { owed, expected }, reading, fit);
+        self.go_on(State::Executing { owed, expected }, reading, fit);
         Step::GoesOn(Notice::Report(Report::Challenge(unit.challenge)))
     }
 
-    // State and event together decide the step, in one `match`: a rule of the project. `next` is the next number.
+    // State and event together decide the step, in one `match`. `next` is the next number. The algorithm is asked only where a
+    // session is taken, so that what the dialogue does not take asks it nothing.
     pub(crate) fn step<A: Algorithm>(
         &mut self,
         event: Event,
@@ -161,12 +182,17 @@ impl Dialogue {
         algorithm: &mut A,
     ) -> Step
         requires time { reading ≤ 2 ^ 40 }
+        requires next { 1 ≤ next.0 }
+        requires able { CanGoOn self.old.state }
+        ensures able { CanMove (one_more (named_in self.old.state)) (result, self.new) }
         ensures value { (result, self.new) ≡ stepped (A.meaning algorithm.old) fit.now reading next self.old event }
         ensures same { A.meaning algorithm.new ≡ A.meaning algorithm.old }
+        ensures stray { result ≡ Stray → algorithm.new ≡ algorithm.old }
+        ensures unasked { ¬ (BringsResult event) → algorithm.new ≡ algorithm.old }
     {
         match (self.state, event) {
             (
-                State::F { user, peer, .. },
+                State::FetchingForInitiation { user, peer, .. },
                 Event::Result(
                     ReturnResult::WtatParamEnq(
                         WtatParamRes {
@@ -178,18 +204,20 @@ impl Dialogue {
                 ),
             ) => {
                 let asked = Asked { peer, id: next };
-                self.go_on(State::I { asked }, reading, fit);
+                self.go_on(State::Initiating { asked }, reading, fit);
                 Step::AsksAgain(asked.authenticate(user, unit))
             }
-            (State::I { .. }, Event::Result(ReturnResult::AuthWtmUser(verdict), _)) => {
+            (State::Initiating { .. }, Event::Result(ReturnResult::AuthWtmUser(verdict), _)) => {
                 Step::Closes(Notice::Report(Report::Verdict(verdict)))
             }
-            (State::G { owed, computes, .. }, Event::Result(ReturnResult::WtatParamEnq(result), _))
-                if computes || !is_session(result.info) => {
+            (
+                State::FetchingForVisitor { owed, computes, .. },
+                Event::Result(ReturnResult::WtatParamEnq(result), _),
+            ) if computes || !is_session(result.info) => {
                 Step::Closes(owed.answer(Body::ReturnResult(ReturnResult::GetWtatParam(result))))
             }
             (
-                State::R { owed, .. },
+                State::Requesting { owed, .. },
                 Event::Result(
                     ReturnResult::GetWtatParam(
                         WtatParamRes {
@@ -201,7 +229,7 @@ impl Dialogue {
                 ),
             ) => { self.go_on_to_terminal(owed, unit, reading, fit) }
             (
-                State::R {
+                State::Requesting {
                     owed,
                     computes: true,
                     ..
@@ -223,17 +251,17 @@ impl Dialogue {
                 };
                 self.go_on_to_terminal(owed, unit, reading, fit)
             }
-            (State::X { owed, expected }, Event::Reply(response)) => {
+            (State::Executing { owed, expected }, Event::Reply(response)) => {
                 let verdict = verdict_on(response, expected);
                 let body = Body::ReturnResult(ReturnResult::AuthWtmUser(verdict));
                 Step::Closes(settle(owed, body, Report::Verdict(verdict)))
             }
             (
-                State::N { .. },
+                State::RequestingProof { .. },
                 Event::Result(ReturnResult::GetWtanParam(WtanParamRes::Response(response)), _),
             ) => { Step::Closes(Notice::Report(Report::Response(response))) }
             (
-                State::N {
+                State::RequestingProof {
                     computes: true,
                     challenge,
                     ..
@@ -243,8 +271,10 @@ impl Dialogue {
                 let response = algorithm.response(&session.key, &challenge);
                 Step::Closes(Notice::Report(Report::Response(response)))
             }
-            (State::M { owed, computes, .. }, Event::Result(ReturnResult::WtanParamEnq(result), _))
-                if computes || !is_proof_session(result) => {
+            (
+                State::FetchingProof { owed, computes, .. },
+                Event::Result(ReturnResult::WtanParamEnq(result), _),
+            ) if computes || !is_proof_session(result) => {
                 Step::Closes(owed.answer(Body::ReturnResult(ReturnResult::GetWtanParam(result))))
             }
             (state, Event::Error(error)) if state.asked().is_some() => Step::Closes(settle(

@@ -1,10 +1,18 @@
 // The entry into service.
-ghost use Rattle.std.specs.Prelude.{◌≡◌};
+ghost use Rattle.std.specs.Prelude.{◌≡◌, IfOk};
 ghost use Rattle.exchange.specs.FitOut.{peer_timers_fit, fitted};
 ghost use Rattle.exchange.specs.Entry.{entered, service_of};
+ghost use Rattle.exchange.specs.Balance.{AlwaysBalanced};
+ghost use Rattle.exchange.specs.Genuine.{AlwaysGenuine};
+ghost use Rattle.exchange.specs.Moves.{AlwaysMoves};
+ghost use Rattle.exchange.specs.Verdicts.{AlwaysTellsVerdicts};
+ghost use Rattle.exchange.specs.Conditions.{AlwaysRefuses};
+ghost use Rattle.exchange.specs.Refuted.{WrongMachinesAreRefuted};
+ghost use Rattle.exchange.specs.Routes.{RoutesRun};
 
 use crate::fit_out::FitOut;
 use crate::in_service::Exchange;
+use crate::numbers::OwnNumber;
 use crate::service::Service;
 use refusal::Refusal;
 
@@ -27,9 +35,24 @@ impl FitOut {
             && self.server >= 1
     }
 
-    // With last reading 0, next number 1 and no dialogue.
+    /// An exchange in service, with last reading 0, next number 1 and no dialogue. Refused with 10 where a value is out of its
+    /// range: T1 to T5 15,000 to 60,000 ms, TR 1,000 to 60,000 ms, Home and server peers 1 to 255.
+    ///
+    /// Of what is in service, its calls keep these laws, after every list of calls: each peer's invoke is answered once, and
+    /// each of ours is settled once (`balanced`); a reply is judged by the algorithm (`genuine`); what a call may do to the
+    /// table of dialogues (`moves`); no verdict is told without a reply (`verdicts`); a call is refused with the lowest number
+    /// whose condition holds (`refuses`).
     pub fn enter_service(self) -> Result<Exchange, Refusal>
-        ensures { service_of result ≡ entered self }
+        ensures value { service_of result ≡ entered self }
+        ensures balanced { IfOk result (λ e. AlwaysBalanced e.service) }
+        ensures genuine { IfOk result (λ e. AlwaysGenuine e.service) }
+        ensures moves { IfOk result (λ e. AlwaysMoves e.service) }
+        ensures verdicts { IfOk result (λ e. AlwaysTellsVerdicts e.service) }
+        ensures refuses { IfOk result (λ e. AlwaysRefuses e.service) }
+        // Each of these laws is false of machines that do wrong.
+        ensures wrong_machines { WrongMachinesAreRefuted }
+        // Whole exchanges that send each other their bytes find the right reply correct, and an altered one incorrect.
+        ensures routes { RoutesRun }
     {
         if !self.is_lawful() {
             return Err(Refusal::Misfitted);
@@ -38,7 +61,7 @@ impl FitOut {
             service: Service {
                 fit: self,
                 last: 0,
-                next: 1,
+                next: OwnNumber(1),
                 dialogues: [None; 32],
             },
         })

@@ -5,35 +5,43 @@ ghost use Rattle.exchange.specs.FitOut.{timer_number, timer_of_number, duration}
 
 use wire::UnknownNumber;
 
+/// The timers. Each state of a dialogue has one.
 #[derive(Clone, Copy)]
 pub enum Timer {
+    /// For a peer's verdict.
     T1 = 1,
+    /// For the server's unit or session.
     T2 = 2,
+    /// For Home's unit or session.
     T3 = 3,
+    /// For Home's proof of the network.
     T4 = 4,
+    /// For the server's proof of the network.
     T5 = 5,
-    // The timer of the radio side.
+    /// For the terminal's reply: the timer of the radio side.
     Tr = 6,
 }
 
-// Times are in milliseconds.
+/// What an exchange is fitted out with. Entering service with a value out of its range is refused with `Misfitted`.
 #[derive(Clone, Copy)]
 pub struct FitOut {
+    /// T1, 15,000 to 60,000 ms, as T2 to T5 are.
     pub t1: u32,
     pub t2: u32,
     pub t3: u32,
     pub t4: u32,
     pub t5: u32,
+    /// TR, 1,000 to 60,000 ms.
     pub tr: u32,
-    // The peer that is Home.
+    /// The peer that is Home, 1 to 255. It need not be a link for an invoke to go to it.
     pub home: u8,
-    // The peer that is the authentication server.
+    /// The peer that is the authentication server, 1 to 255. It need not be a link either.
     pub server: u8,
+    /// Whether this exchange can compute responses from a session key.
     pub can_compute: bool,
 }
 
-// The number under which a timer's expiry is reported. Conversions of its own, as each code list has them: `as` works
-// on no type parameter.
+// The number under which a timer's expiry is reported.
 impl From<Timer> for u8 {
     ghost from_gives = { λ timer n. n ≡ timer_number timer };
 

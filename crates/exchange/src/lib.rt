@@ -2,13 +2,16 @@
 #![tactic(auto)]
 
 mod calls;
+mod deliver;
 mod dialogue;
 mod entry;
 mod fit_out;
+mod handling;
 mod in_service;
 mod numbers;
 mod outcome;
 mod results;
+mod server;
 mod service;
 mod state;
 mod table;

@@ -4,16 +4,19 @@ ghost use Rattle.exchange.specs.Service.{Timely, timely, ready, room};
 
 use crate::dialogue::Dialogue;
 use crate::fit_out::FitOut;
+use crate::numbers::OwnNumber;
 use refusal::Refusal;
 
+/// What an exchange in service keeps.
 #[derive(Clone, Copy)]
 pub struct Service {
+    /// What it was fitted out with, every value in its range.
     pub fit: FitOut,
-    // The last reading.
+    /// The last reading, in milliseconds, at most 2^40: that of the last done call, clocks that closed a dialogue aside.
     pub last: u64,
-    // The next number that an opening dialogue takes.
-    pub next: u16,
-    // The places for dialogues: a fixed table, by a rule of the project.
+    /// The next number, from 1, which an opening dialogue takes. Above 60,000 none opens.
+    pub next: OwnNumber,
+    /// The places for dialogues. At most 32 are open, so that entering service needs no memory and cannot fail for want of it.
     pub dialogues: [Option<Dialogue>; 32],
 }
 
@@ -21,8 +24,7 @@ pub struct Service {
 const LAST_READING: u64 = 1 << 40;
 
 impl Service {
-    // The checks of every call: the buffer's size, then the reading. Both are parameters of the public calls, which keep
-    // theirs.
+    // The checks of every call: the buffer's size, then the reading.
     pub(crate) fn check_time(&self, reading: u64, size: usize) -> Result<(), Refusal>
         ensures value { result ≡ timely self.now reading size }
         ensures passed { OnOk result (Timely reading size) }
@@ -51,10 +53,10 @@ impl Service {
     // The place for one more dialogue, where there is one and a number for it.
     pub(crate) fn check_room(&self) -> Result<usize, Refusal>
         ensures value { result ≡ room self.now }
-        ensures passed { IfOk result (λ place. (place < length self.now.dialogues) × (self.now.next ≤ 60000)) }
+        ensures passed { IfOk result (λ place. (place < length self.now.dialogues) × (self.now.next.0 ≤ 60000)) }
     {
         let place = self.free_place().ok_or(Refusal::Full)?;
-        if self.next > 60_000 {
+        if self.next.0 > 60_000 {
             return Err(Refusal::Spent);
         }
         Ok(place)

@@ -1,50 +1,50 @@
 // The states of a dialogue.
 ghost use Rattle.std.specs.Prelude.{◌≡◌, ◌^◌, ◌≤◌};
-ghost use Rattle.exchange.specs.State.{timer_of, end_of, owed_by, asked_by};
+ghost use Rattle.exchange.specs.State.{timer_of, end_of, owed_by, asked_by, is_owed_to, is_asked_of, is_at_terminal};
 
 use crate::fit_out::{FitOut, Timer};
-use crate::numbers::{Asked, Owed};
+use crate::numbers::{Asked, Owed, OwnNumber, PeerInvokeId};
 use apdu::{Challenge, Response, UserNumber};
 
-// Each carries what it awaits and what it owes. `computes` tells whether our invoke said that the asker can compute, so
-// that a session may come back.
+/// What a dialogue awaits and what it owes. `computes` tells whether our invoke said that the asker can compute, so that a
+/// session may come back.
 #[derive(Clone, Copy)]
 pub enum State {
-    // For an initiation: awaits the server's result of wtatParamEnq, with a unit for this user at this peer.
-    F {
+    /// For an initiation with values: awaits the server's result of wtatParamEnq, with a unit for this user at this peer. T2.
+    FetchingForInitiation {
         asked: Asked,
         user: UserNumber,
         peer: u8,
     },
-    // Awaits the peer's result of authWtmUser.
-    I {
+    /// Awaits the peer's result of authWtmUser. T1.
+    Initiating {
         asked: Asked,
     },
-    // Owes getWtatParam; awaits the server's result of wtatParamEnq.
-    G {
+    /// Owes getWtatParam; awaits the server's result of wtatParamEnq. T2.
+    FetchingForVisitor {
         asked: Asked,
         owed: Owed,
         computes: bool,
     },
-    // Owes authWtmUser, or nothing where a user of our own asked; awaits Home's result of getWtatParam.
-    R {
+    /// Owes authWtmUser, or nothing after a Visitor start; awaits Home's result of getWtatParam. T3.
+    Requesting {
         asked: Asked,
         owed: Option<Owed>,
         computes: bool,
     },
-    // Owes as R; awaits the terminal's reply, and this response.
-    X {
+    /// With the terminal: owes as when requesting; awaits the terminal's reply, correct where it is this response of 4 bytes. TR.
+    Executing {
         owed: Option<Owed>,
         expected: Response,
     },
-    // Awaits Home's result of getWtanParam, for the terminal's challenge.
-    N {
+    /// Awaits Home's result of getWtanParam, for the terminal's challenge of 8 bytes. T4.
+    RequestingProof {
         asked: Asked,
         computes: bool,
         challenge: Challenge,
     },
-    // Owes getWtanParam; awaits the server's result of wtanParamEnq.
-    M {
+    /// Owes getWtanParam; awaits the server's result of wtanParamEnq. T5.
+    FetchingProof {
         asked: Asked,
         owed: Owed,
         computes: bool,
@@ -57,12 +57,12 @@ impl State {
         ensures { result ≡ timer_of self.now }
     {
         match self {
-            State::F { .. } | State::G { .. } => Timer::T2,
-            State::I { .. } => Timer::T1,
-            State::R { .. } => Timer::T3,
-            State::X { .. } => Timer::Tr,
-            State::N { .. } => Timer::T4,
-            State::M { .. } => Timer::T5,
+            State::FetchingForInitiation { .. } | State::FetchingForVisitor { .. } => Timer::T2,
+            State::Initiating { .. } => Timer::T1,
+            State::Requesting { .. } => Timer::T3,
+            State::Executing { .. } => Timer::Tr,
+            State::RequestingProof { .. } => Timer::T4,
+            State::FetchingProof { .. } => Timer::T5,
         }
     }
 
@@ -79,9 +79,13 @@ impl State {
         ensures { result ≡ owed_by self.now }
     {
         match self {
-            State::F { .. } | State::I { .. } | State::N { .. } => None,
-            State::G { owed, .. } | State::M { owed, .. } => Some(*owed),
-            State::R { owed, .. } | State::X { owed, .. } => *owed,
+            State::FetchingForInitiation { .. }
+            | State::Initiating { .. }
+            | State::RequestingProof { .. } => None,
+            State::FetchingForVisitor { owed, .. } | State::FetchingProof { owed, .. } => Some(
+                *owed,
+            ),
+            State::Requesting { owed, .. } | State::Executing { owed, .. } => *owed,
         }
     }
 
@@ -90,13 +94,36 @@ impl State {
         ensures { result ≡ asked_by self.now }
     {
         match self {
-            State::F { asked, .. }
-            | State::I { asked }
-            | State::G { asked, .. }
-            | State::R { asked, .. }
-            | State::N { asked, .. }
-            | State::M { asked, .. } => Some(*asked),
-            State::X { .. } => None,
+            State::FetchingForInitiation { asked, .. }
+            | State::Initiating { asked }
+            | State::FetchingForVisitor { asked, .. }
+            | State::Requesting { asked, .. }
+            | State::RequestingProof { asked, .. }
+            | State::FetchingProof { asked, .. } => Some(*asked),
+            State::Executing { .. } => None,
         }
+    }
+
+    // Whether it owes a peer the answer to an invoke.
+    pub(crate) fn owes(&self, peer: u8, id: PeerInvokeId) -> bool
+        ensures { result ≡ is_owed_to peer id.0 (owed_by self.now) }
+    {
+        self.owed()
+            .is_some_and(|owed| owed.id == id && owed.peer == peer)
+    }
+
+    // Whether it awaits a peer's answer to an invoke.
+    pub(crate) fn awaits(&self, peer: u8, id: OwnNumber) -> bool
+        ensures { result ≡ is_asked_of peer id.0 (asked_by self.now) }
+    {
+        self.asked()
+            .is_some_and(|asked| asked.id == id && asked.peer == peer)
+    }
+
+    // Whether the terminal has a challenge.
+    pub(crate) fn is_at_terminal(&self) -> bool
+        ensures { result ≡ is_at_terminal self.now }
+    {
+        matches!(self, State::Executing { .. })
     }
 }

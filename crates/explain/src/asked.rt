@@ -1,27 +1,53 @@
 // What a record of a tape asks, in words.
 use crate::bytes::Bytes;
 use crate::digits::Digits;
+use crate::progress::Progress;
+use crate::sent::Sent;
 use entries::KeyPlace;
-use exchange::FitOut;
+use exchange::{FitOut, OwnNumber};
 use sheet::{Initiation, Record};
 use std::fmt;
-use users::UserNumber;
 use wire::Field;
 
+/// A record of a tape, and how far the run found it right.
 #[derive(Clone, Copy)]
-pub struct Asked<'a>(pub Field<'a>);
+pub struct Asked<'a> {
+    pub field: Field<'a>,
+    pub progress: Progress,
+}
 
 #[derive(Clone, Copy)]
 struct FittedOut(FitOut);
 
-// Where a subscriber's parameters are, by the number of the place. A byte that is no place is not shown: in a record that
-// was put together wrongly it may be part of the key.
+// Where a subscriber's parameters are, by the number of the place. A byte that is no place is not shown: it may be part
+// of a key.
 #[derive(Clone, Copy)]
-struct Placed(u8);
+struct Placed {
+    place: u8,
+    progress: Progress,
+}
 
-// The digits of a subscriber. For the same reason bytes that are no user number are only counted.
+// The reading of a call.
 #[derive(Clone, Copy)]
-struct Subscribed<'a>(&'a [u8]);
+struct At {
+    reading: u64,
+    progress: Progress,
+}
+
+// The peer of an initiation or of a delivery.
+#[derive(Clone, Copy)]
+struct Peer {
+    number: u8,
+    progress: Progress,
+}
+
+// Either initiation.
+#[derive(Clone, Copy)]
+struct Initiated<'a> {
+    name: &'a str,
+    initiation: Initiation<'a>,
+    progress: Progress,
+}
 
 impl fmt::Display for FittedOut {
     fn fmt<W: fmt::Write>(&self, f: &mut fmt::Formatter<W>) -> fmt::Result {
@@ -47,68 +73,93 @@ impl fmt::Display for FittedOut {
 
 impl fmt::Display for Placed {
     fn fmt<W: fmt::Write>(&self, f: &mut fmt::Formatter<W>) -> fmt::Result {
-        match KeyPlace::try_from(self.0) {
-            Ok(KeyPlace::NoParameters) => write!(f, "no parameters"),
-            Ok(KeyPlace::Here) => write!(f, "key here"),
-            Ok(KeyPlace::Server) => write!(f, "key at the server"),
-            Err(_) => write!(f, "at a place above 2"),
+        match (self.progress, KeyPlace::try_from(self.place)) {
+            (Progress::Misdialled, _) => write!(f, "at a place above 2"),
+            (Progress::Nowhere, _) | (_, Err(_)) => write!(f, "at a place that is not shown"),
+            (_, Ok(KeyPlace::NoParameters)) => write!(f, "no parameters"),
+            (_, Ok(KeyPlace::Here)) => write!(f, "key here"),
+            (_, Ok(KeyPlace::Server)) => write!(f, "key at the server"),
         }
     }
 }
 
-impl fmt::Display for Subscribed<'_> {
+impl fmt::Display for At {
     fn fmt<W: fmt::Write>(&self, f: &mut fmt::Formatter<W>) -> fmt::Result {
-        let text = self.0;
-        if text.is_empty() || UserNumber::from_digits(text).is_some() {
-            return write!(f, "{}", Digits { text });
+        let At { reading, progress } = *self;
+        if progress == Progress::Nowhere {
+            return write!(f, "at a reading that is not shown");
         }
-        let size = text.len();
-        write!(f, "of {size} bytes that are no user number")
+        write!(f, "at {reading} ms")
+    }
+}
+
+impl fmt::Display for Peer {
+    fn fmt<W: fmt::Write>(&self, f: &mut fmt::Formatter<W>) -> fmt::Result {
+        let Peer { number, progress } = *self;
+        match progress {
+            Progress::Done | Progress::Addressed => write!(f, "peer {number}"),
+            Progress::Misdialled => write!(f, "a peer that is no link"),
+            Progress::Nowhere => write!(f, "a peer that is not shown"),
+        }
+    }
+}
+
+impl fmt::Display for Initiated<'_> {
+    fn fmt<W: fmt::Write>(&self, f: &mut fmt::Formatter<W>) -> fmt::Result {
+        let Initiation {
+            reading,
+            peer,
+            digits,
+        } = self.initiation;
+        let user = Digits(digits);
+        let progress = self.progress.given(user.is_user());
+        let at = At { reading, progress };
+        let name = self.name;
+        let peer = Peer {
+            number: peer,
+            progress,
+        };
+        write!(f, "{at}, {name} to {peer} for user {user}")
     }
 }
 
 impl fmt::Display for Asked<'_> {
     fn fmt<W: fmt::Write>(&self, f: &mut fmt::Formatter<W>) -> fmt::Result {
-        match Record::read(self.0) {
-            Some(Record::FitOut(fit)) => write!(f, "{}", FittedOut(fit)),
-            Some(Record::Link { peer }) => write!(f, "link to peer {peer}"),
+        let Asked { field, progress } = *self;
+        let is_done = progress == Progress::Done;
+        match Record::read(field) {
+            Some(Record::FitOut(fit)) if is_done => write!(f, "{}", FittedOut(fit)),
+            Some(Record::FitOut(_)) => write!(f, "fit-out whose values are not shown"),
+            Some(Record::Link { peer }) if is_done => write!(f, "link to peer {peer}"),
+            Some(Record::Link { .. }) => write!(f, "link to a peer of 1 byte that is not shown"),
             Some(Record::Subscriber { place, digits, .. }) => {
-                let user = Subscribed(digits);
-                write!(f, "subscriber {user}, {}", Placed(place))
+                let user = Digits(digits);
+                let progress = progress.given(user.is_user());
+                write!(f, "subscriber {user}, {}", Placed { place, progress })
             }
-            Some(
-                Record::PlainInitiation(
-                    Initiation {
-                        reading,
-                        peer,
-                        digits,
-                    },
-                ),
-            ) => {
-                let user = Digits { text: digits };
-                write!(
-                    f,
-                    "at {reading} ms, plain initiation to peer {peer} for user {user}"
-                )
+            Some(Record::PlainInitiation(initiation)) => {
+                let name = "plain initiation";
+                let initiated = Initiated {
+                    name,
+                    initiation,
+                    progress,
+                };
+                write!(f, "{initiated}")
             }
-            Some(
-                Record::InitiationWithValues(
-                    Initiation {
-                        reading,
-                        peer,
-                        digits,
-                    },
-                ),
-            ) => {
-                let user = Digits { text: digits };
-                write!(
-                    f,
-                    "at {reading} ms, initiation with values to peer {peer} for user {user}"
-                )
+            Some(Record::InitiationWithValues(initiation)) => {
+                let name = "initiation with values";
+                let initiated = Initiated {
+                    name,
+                    initiation,
+                    progress,
+                };
+                write!(f, "{initiated}")
             }
             Some(Record::VisitorStart { reading, digits }) => {
-                let user = Digits { text: digits };
-                write!(f, "at {reading} ms, Visitor start for user {user}")
+                let user = Digits(digits);
+                let progress = progress.given(user.is_user());
+                let at = At { reading, progress };
+                write!(f, "{at}, Visitor start for user {user}")
             }
             Some(
                 Record::NetworkProof {
@@ -117,19 +168,59 @@ impl fmt::Display for Asked<'_> {
                     digits,
                 },
             ) => {
-                let user = Digits { text: digits };
+                let user = Digits(digits);
+                let progress = progress.given(user.is_user());
+                let at = At { reading, progress };
                 let challenge = Bytes(challenge);
+                if is_done {
+                    write!(
+                        f,
+                        "{at}, network proof for user {user} to challenge {challenge}"
+                    )
+                } else {
+                    write!(
+                        f,
+                        "{at}, network proof for user {user} to a challenge that is not shown"
+                    )
+                }
+            }
+            Some(
+                Record::Reply {
+                    reading,
+                    name: OwnNumber(name),
+                    response,
+                },
+            ) if is_done => {
+                let response = Bytes(response);
                 write!(
                     f,
-                    "at {reading} ms, network proof for user {user} to challenge {challenge}"
+                    "at {reading} ms, response {response} from the terminal of dialogue {name}"
                 )
             }
-            Some(Record::Clock { reading }) => write!(f, "at {reading} ms, clock"),
-            None => {
-                let Field { tag, value } = self.0;
-                let size = value.len();
-                write!(f, "record with tag {tag:02X} of size {size}")
+            // Of a reply that is refused nothing but the reading was looked at and found right.
+            Some(Record::Reply { .. }) => write!(f, "reply that is not shown"),
+            Some(
+                Record::Delivery {
+                    reading,
+                    peer,
+                    bytes,
+                    ..
+                },
+            ) => {
+                let sent = Sent {
+                    bytes,
+                    with_values: is_done,
+                };
+                let progress = progress.given(sent.is_well_formed());
+                let at = At { reading, progress };
+                let peer = Peer {
+                    number: peer,
+                    progress,
+                };
+                write!(f, "{at}, delivery from {peer}{sent}")
             }
+            Some(Record::Clock { reading }) => { write!(f, "{}, clock", At { reading, progress }) }
+            None => write!(f, "record of an unknown tag or of a wrong size"),
         }
     }
 }

@@ -7,6 +7,7 @@ use sheet::{Answer, causes, reports};
 use std::fmt;
 use wire::Field;
 
+/// A record of a sheet.
 #[derive(Clone, Copy)]
 pub struct Came<'a>(pub Field<'a>);
 
@@ -50,7 +51,7 @@ impl fmt::Display for Failed {
     fn fmt<W: fmt::Write>(&self, f: &mut fmt::Formatter<W>) -> fmt::Result {
         let Failed { cause, number } = *self;
         match cause {
-            causes::ERROR => write!(f, "by error {}", ErrorName(number)),
+            causes::ERROR => write!(f, "by error {number}, {}", ErrorName(number)),
             causes::REJECT => write!(f, "by a reject with problem {number}"),
             causes::EXPIRY => write!(f, "by expiry of {}", Timed(number)),
             _ => write!(f, "by cause {cause}"),
@@ -108,7 +109,11 @@ impl fmt::Display for Came<'_> {
     fn fmt<W: fmt::Write>(&self, f: &mut fmt::Formatter<W>) -> fmt::Result {
         match (Answer::try_from(self.0.tag), self.0.value) {
             (Ok(Answer::Sent), [peer, apdu @ ..]) => {
-                write!(f, "sent to peer {peer}{}", Sent(apdu))
+                let sent = Sent {
+                    bytes: apdu,
+                    with_values: true,
+                };
+                write!(f, "sent to peer {peer}{sent}")
             }
             (Ok(Answer::Reported), report) => write!(f, "{}", Reported(report)),
             (Ok(Answer::Refused), [number]) => write!(f, "{}", Refused(*number)),

@@ -5,10 +5,12 @@ mod asked;
 mod bytes;
 mod came;
 mod digits;
+mod progress;
 mod sent;
 
 use asked::Asked;
 use came::Came;
+use progress::Progress;
 use sheet::sheet;
 use std::io;
 use std::io::Read;
@@ -19,8 +21,9 @@ fn explain(rt: &HostRuntime, tape: &[u8], made: &[u8]) -> io::Result<()> {
     let mut records = Reader::new(tape);
     for outcome in Reader::new(made) {
         let came = Came(outcome);
+        let progress = Progress::of(outcome);
         match records.next() {
-            Some(field) => println!(rt; "{}: {came}", Asked(field))?,
+            Some(field) => println!(rt; "{}: {came}", Asked { field, progress })?,
             None => println!(rt; "cut record: {came}")?,
         }
     }

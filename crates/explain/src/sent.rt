@@ -1,15 +1,29 @@
-// An APDU that is sent, in words.
+// An APDU that is sent or delivered, in words.
+ghost use Rattle.std.specs.Prelude.{◌≡◌};
+ghost use Rattle.apdu.specs.Decode.{received_as};
+ghost use Rattle.explain.specs.WellFormed.{is_well_formed};
+
 use crate::bytes::Bytes;
 use crate::digits::Digits;
+use apdu::NoApdu;
 use std::fmt;
 use wire::{ErrorCode, Field, Kind, Operation, Reader, Verdict, tags};
 
+/// What is sent or delivered: an APDU by its fields, an invoke that is due a reject by its id and the problem, and of
+/// other bytes their number alone.
 #[derive(Clone, Copy)]
-pub struct Sent<'a>(pub &'a [u8]);
+pub struct Sent<'a> {
+    pub bytes: &'a [u8],
+    /// Whether challenges, responses and parameters are shown. A session key never is.
+    pub with_values: bool,
+}
 
 // A field of an APDU.
 #[derive(Clone, Copy)]
-struct Named<'a>(Field<'a>);
+struct Named<'a> {
+    field: Field<'a>,
+    with_values: bool,
+}
 
 // A challenge and its response.
 #[derive(Clone, Copy)]
@@ -26,9 +40,11 @@ struct KindName(u8);
 #[derive(Clone, Copy)]
 struct OperationName(u8);
 
+/// A verdict by its number.
 #[derive(Clone, Copy)]
 pub struct VerdictName(pub u8);
 
+/// An error by its number.
 #[derive(Clone, Copy)]
 pub struct ErrorName(pub u8);
 
@@ -110,39 +126,66 @@ impl fmt::Display for Session<'_> {
 
 impl fmt::Display for Named<'_> {
     fn fmt<W: fmt::Write>(&self, f: &mut fmt::Formatter<W>) -> fmt::Result {
-        match (self.0.tag, self.0.value) {
+        match (self.field.tag, self.field.value) {
             (tags::KIND, [number]) => write!(f, "kind {}", KindName(*number)),
             (tags::ID, [high, low]) => {
                 let id = u16::from_be_bytes([*high, *low]);
                 write!(f, "invoke id {id}")
             }
             (tags::OPERATION, [number]) => write!(f, "operation {}", OperationName(*number)),
-            (tags::USER, text) => {
-                let user = Digits { text };
-                write!(f, "user number {user}")
-            }
+            (tags::USER, text) => write!(f, "user number {}", Digits(text)),
             (tags::CAN_COMPUTE, []) => write!(f, "can compute"),
-            (tags::CHALLENGE, challenge) => write!(f, "challenge {}", Bytes(challenge)),
             (tags::ALGORITHM, [number]) => write!(f, "algorithm {number}"),
-            (tags::UNIT, unit) => write!(f, "{}", Unit(unit)),
-            (tags::SESSION, session) => write!(f, "{}", Session(session)),
-            (tags::RESPONSE, response) => write!(f, "response {}", Bytes(response)),
             (tags::VERDICT, [number]) => write!(f, "verdict {}", VerdictName(*number)),
             (tags::ERROR, [number]) => write!(f, "error {}", ErrorName(*number)),
             (tags::PROBLEM, [number]) => write!(f, "problem {number}"),
-            (tag, value) => {
-                let size = value.len();
-                write!(f, "field {tag:02X} of size {size}")
+            (tags::CHALLENGE, challenge) if self.with_values => {
+                write!(f, "challenge {}", Bytes(challenge))
             }
+            (tags::UNIT, unit) if self.with_values => write!(f, "{}", Unit(unit)),
+            (tags::SESSION, session) if self.with_values => write!(f, "{}", Session(session)),
+            (tags::RESPONSE, response) if self.with_values => {
+                write!(f, "response {}", Bytes(response))
+            }
+            (tags::CHALLENGE, _) => write!(f, "a challenge that is not shown"),
+            (tags::UNIT, _) => write!(f, "a unit that is not shown"),
+            (tags::SESSION, _) => write!(f, "a session that is not shown"),
+            (tags::RESPONSE, _) => write!(f, "a response that is not shown"),
+            _ => write!(f, "another field"),
         }
     }
 }
 
 impl fmt::Display for Sent<'_> {
     fn fmt<W: fmt::Write>(&self, f: &mut fmt::Formatter<W>) -> fmt::Result {
-        for field in Reader::new(self.0) {
-            write!(f, ", {}", Named(field))?;
+        match apdu::read(self.bytes) {
+            Ok(_) => {
+                for field in Reader::new(self.bytes) {
+                    let with_values = self.with_values;
+                    write!(f, ", {}", Named { field, with_values })?;
+                }
+                Ok(())
+            }
+            Err(NoApdu::RejectDue { id, problem }) => {
+                let problem: u8 = problem.into();
+                write!(
+                    f,
+                    ", kind invoke, invoke id {id}, due a reject with problem {problem}"
+                )
+            }
+            Err(NoApdu::Garbled) => match self.bytes.len() {
+                1 => write!(f, ", 1 byte that is no APDU"),
+                size => write!(f, ", {size} bytes that are no APDU"),
+            },
         }
-        Ok(())
+    }
+}
+
+impl Sent<'_> {
+    /// Whether the bytes are an APDU, or an invoke that is due a reject.
+    pub fn is_well_formed(&self) -> bool
+        ensures { result ≡ is_well_formed (received_as self.now.bytes.now) }
+    {
+        !matches!(apdu::read(self.bytes), Err(NoApdu::Garbled))
     }
 }

@@ -8,34 +8,34 @@ ghost use Rattle.refusal.specs.Numbers.{refusal_number, refusal_name, numbered};
 use std::error::Error;
 use std::fmt;
 
-// In the order in which a call checks for them.
+/// In the order in which a call checks for them, by their numbers.
 #[derive(Clone, Copy, PartialEq, Eq, Debug)]
 pub enum Refusal {
-    // The output buffer is under 64 bytes.
+    /// The output buffer is under 64 bytes.
     ShortSheet = 1,
-    // The reading is below the last one, or above 2^40.
+    /// The reading is below the last one, or above 2^40.
     ClockBack = 2,
-    // The call is no clock call, and a timer ends at or before its reading.
+    /// The call is no clock call, and a timer ends at or before its reading.
     TimerDue = 3,
-    // A bad user number, an initiation's peer that is not among the links, a challenge of another size than 8 bytes, a place
-    // above 2 for a subscriber that is added, or peer 0 for a link that is.
+    /// A bad user number; a peer of an initiation or a delivery that is no link; a challenge of another size than 8 bytes, a
+    /// draw than 16, a response than 4; a place above 2, or peer 0, that is added.
     Misdialled = 4,
-    // A tape record that is cut, unknown, of a wrong size, or a second fit-out; fields to write that are no APDU.
+    /// Delivered bytes that are no APDU and are due no reject; a tape record that is cut, unknown, of a wrong size, or a second
+    /// fit-out; fields to write that are no APDU.
     Garbled = 5,
-    // No record of the directory has the key that is to be removed.
+    /// Nothing awaits the answer or the reply; no record has the key that is to be removed.
     Stray = 6,
-    // The directory has a record with this key.
+    /// The invoke is still owed its answer; the directory has a record with this key.
     Twice = 7,
-    // No place is left for a dialogue, a record or a row.
+    /// No place is left for a dialogue, a record or a row.
     Full = 8,
-    // The numbers for opening dialogues are used up.
+    /// The numbers for opening dialogues are used up.
     Spent = 9,
-    // A fit-out value is out of its range.
+    /// A fit-out value is out of its range.
     Misfitted = 10,
 }
 
-// A number that no refusal has. The code lists of another crate have an error of their own, since neither crate stands
-// on the other.
+/// A number that no refusal has.
 #[derive(Clone, Copy, PartialEq, Eq, Debug)]
 pub struct UnknownRefusal(pub u8);
 
@@ -71,7 +71,7 @@ impl TryFrom<u8> for Refusal {
 }
 
 impl Refusal {
-    // Beside Display, which writes it: a caller that has nowhere to write gets the text by a call that cannot fail.
+    /// Its name, in lowercase words, as Display writes it.
     pub fn name(self) -> &'static str
         ensures { result.now ≡ refusal_name self }
     {

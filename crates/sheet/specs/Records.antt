@@ -2,6 +2,7 @@
 use Rattle.std.specs.Prelude.{ℕ, ◌+◌, ◌*◌, cond, List, [], ◌∷◌, length, take, drop, Some, None, Option, ◌==◌, nat_lt, slice_index}
 use Rattle.std.specs.Option.{option_map}
 use Rattle.exchange.specs.declared.fit_out.FitOut.{FitOut}
+use Rattle.exchange.specs.declared.numbers.OwnNumber.{OwnNumber}
 use Rattle.sheet.specs.declared.record.Initiation.{Initiation}
 use Rattle.sheet.specs.declared.record.Record.{Record}
 use Rattle.sheet.specs.declared.record.Record.TheVariants as record_of
@@ -24,6 +25,10 @@ pub data Entry : Type 0 where
   visitor_start : ℕ → List ℕ → Entry
   -- reading, challenge, digits
   network_proof : ℕ → List ℕ → List ℕ → Entry
+  -- reading, name, response
+  reply : ℕ → OwnNumber → List ℕ → Entry
+  -- reading, draw, peer, bytes
+  delivery : ℕ → List ℕ → ℕ → List ℕ → Entry
   clock : ℕ → Entry
   unreadable : Entry
 
@@ -41,6 +46,8 @@ view (record_of.PlainInitiation i) = plain_initiation (initiation_view i)
 view (record_of.InitiationWithValues i) = initiation_with_values (initiation_view i)
 view (record_of.VisitorStart reading digits) = visitor_start reading digits.now
 view (record_of.NetworkProof reading challenge digits) = network_proof reading challenge.now digits.now
+view (record_of.Reply reading name response) = reply reading name response.now
+view (record_of.Delivery reading draw peer bytes) = delivery reading draw.now peer bytes.now
 view (record_of.Clock reading) = clock reading
 
 -- what a record asks, if the bytes are one
@@ -104,6 +111,15 @@ abbrev pub read_network_proof : List ℕ → Entry
 read_network_proof v =
     cond (nat_lt (length v) 16) unreadable (network_proof (reading_of v) (take 8 (drop 8 v)) (drop 16 v))
 
+-- a reading, a dialogue's name, and a response of four bytes
+abbrev pub read_reply : List ℕ → Entry
+read_reply v = cond (length v == 14) (reply (reading_of v) (record { 0 = big_endian 0 (take 2 (drop 8 v)) }) (drop 10 v)) unreadable
+
+-- a reading, a draw of 16 bytes, a peer, and an APDU to the end
+abbrev pub read_delivery : List ℕ → Entry
+read_delivery v =
+    cond (nat_lt (length v) 25) unreadable (delivery (reading_of v) (take 16 (drop 8 v)) (slice_index v 24) (drop 25 v))
+
 abbrev pub read_clock : List ℕ → Entry
 read_clock v = cond (length v == 8) (clock (big_endian 0 v)) unreadable
 
@@ -117,4 +133,6 @@ read_entry tag v =
     (cond (tag == 0x21) (initiation_as initiation_with_values (read_initiation v))
     (cond (tag == 0x22) (read_visitor_start v)
     (cond (tag == 0x23) (read_network_proof v)
-    (cond (tag == 0x26) (read_clock v) unreadable)))))))
+    (cond (tag == 0x24) (read_reply v)
+    (cond (tag == 0x25) (read_delivery v)
+    (cond (tag == 0x26) (read_clock v) unreadable)))))))))

@@ -89,6 +89,28 @@ impl<'a> Bench<'a> {
             } => self
                 .exchange
                 .network_proof(reading, digits, challenge, &self.algorithm, out),
+            Record::Reply {
+                reading,
+                name,
+                response,
+            } => self
+                .exchange
+                .reply(reading, name, response, &mut self.algorithm, out),
+            Record::Delivery {
+                reading,
+                draw,
+                peer,
+                bytes,
+            } => self.exchange.deliver(
+                reading,
+                peer,
+                draw,
+                bytes,
+                &self.links,
+                &self.subscribers,
+                &mut self.algorithm,
+                out,
+            ),
             Record::Clock { reading } => self.exchange.clock(reading, &mut self.algorithm, out),
         }
     }

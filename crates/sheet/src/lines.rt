@@ -11,13 +11,16 @@ use refusal::Refusal;
 use std::alloc::AllocError;
 use wire::UnknownNumber;
 
-// What a record of a sheet says, by its tag. A conversion of its own, as each code list has one; its tags are written
-// where they are named, and so by `as`.
+/// What a record of a sheet says, by its tag.
 #[derive(Clone, Copy, PartialEq, Eq, Debug)]
 pub enum Answer {
+    /// A peer (one byte), and the APDU that goes to it.
     Sent = 0x30,
+    /// The kind of a report (`reports`), the dialogue's name (two bytes, high byte first), and what is reported.
     Reported = 0x31,
+    /// The number of a refusal (one byte).
     Refused = 0x32,
+    /// Nothing: its value is empty.
     Done = 0x33,
 }
 
@@ -98,8 +101,7 @@ fn add_sent(peer: u8, apdu: &[u8], sheet: &mut Vec<u8>) -> Result<(), AllocError
     sheet.extend_from_slice(apdu)
 }
 
-// Adds the record of an outcome to the sheet. Each is one slice with its head, which is plainer than a field and its
-// value added apart.
+// Adds the record of an outcome to the sheet, each as one slice with its head.
 pub(crate) fn add_record(
     outcome: &Result<Done, Refusal>,
     buffer: &[u8; 64],

@@ -1,4 +1,4 @@
-// Numbers in several bytes, high byte first. Two functions, since `from_be_bytes` is on no type parameter.
+// Numbers in several bytes, high byte first.
 ghost use Rattle.std.specs.Prelude.{◌≡◌, ◌+◌, ◌≤◌, length};
 ghost use Rattle.sheet.specs.Records.{four_at, big_endian};
 
@@ -15,4 +15,11 @@ pub(crate) fn eight(bytes: [u8; 8]) -> u64
     ensures { result ≡ big_endian 0 bytes }
 {
     u64::from_be_bytes(bytes)
+}
+
+// The number in two bytes.
+pub(crate) fn two(bytes: [u8; 2]) -> u16
+    ensures { result ≡ big_endian 0 bytes }
+{
+    u16::from_be_bytes(bytes)
 }

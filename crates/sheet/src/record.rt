@@ -1,27 +1,35 @@
 // The records of a tape.
 ghost use Rattle.std.specs.Prelude.{◌≡◌};
-ghost use Rattle.sheet.specs.Records.{seen, read_fit_out, read_link, read_subscriber, initiation_seen, read_initiation, read_visitor_start, read_network_proof, read_clock, read_entry};
+ghost use Rattle.sheet.specs.Records.{seen, read_fit_out, read_link, read_subscriber, initiation_seen, read_initiation, read_visitor_start, read_network_proof, read_reply, read_delivery, read_clock, read_entry};
 
-use crate::numbers::{eight, four};
-use apdu::Challenge;
+use crate::numbers::{eight, four, two};
+use apdu::{Challenge, Response};
 use entries::UserKey;
-use exchange::FitOut;
+use exchange::{FitOut, OwnNumber};
 use wire::Field;
 
-// What both initiations have.
+/// What both initiations have.
 #[derive(Clone, Copy)]
 pub struct Initiation<'a> {
+    /// In milliseconds.
     pub reading: u64,
+    /// The peer that is to authenticate the user.
     pub peer: u8,
+    /// The user's digits, which may be none and need not be digits: the call looks at them.
     pub digits: &'a [u8],
 }
 
+/// What a record of a tape asks. The sizes are right; whether the values are, the call tells that takes them. Readings
+/// are in milliseconds.
 #[derive(Clone, Copy)]
 pub enum Record<'a> {
+    /// Enters service, as the first record alone.
     FitOut(FitOut),
+    /// Adds a link.
     Link {
         peer: u8,
     },
+    /// Adds a subscriber: where the parameters are (0 nowhere, 1 here, 2 at the server), and the user's digits.
     Subscriber {
         place: u8,
         key: &'a UserKey,
@@ -33,10 +41,25 @@ pub enum Record<'a> {
         reading: u64,
         digits: &'a [u8],
     },
+    /// A terminal challenges the network.
     NetworkProof {
         reading: u64,
         challenge: &'a Challenge,
         digits: &'a [u8],
+    },
+    /// The terminal of a dialogue responds to its challenge.
+    Reply {
+        reading: u64,
+        name: OwnNumber,
+        response: &'a Response,
+    },
+    /// A peer's bytes, which may be none and need not be an APDU, and what is drawn for them: 8 bytes for a challenge,
+    /// then 8 for a parameter.
+    Delivery {
+        reading: u64,
+        draw: &'a [u8; 16],
+        peer: u8,
+        bytes: &'a [u8],
     },
     Clock {
         reading: u64,
@@ -122,6 +145,33 @@ fn network_proof(value: &[u8]) -> Option<Record<'_>>
     })
 }
 
+fn reply(value: &[u8]) -> Option<Record<'_>>
+    ensures { seen result ≡ read_reply value.now }
+{
+    let (reading, rest) = value.split_first_chunk::<8>()?;
+    let (name, rest) = rest.split_first_chunk::<2>()?;
+    let response = rest.try_into().ok()?;
+    Some(Record::Reply {
+        reading: eight(*reading),
+        name: OwnNumber(two(*name)),
+        response,
+    })
+}
+
+fn delivery(value: &[u8]) -> Option<Record<'_>>
+    ensures { seen result ≡ read_delivery value.now }
+{
+    let (reading, rest) = value.split_first_chunk::<8>()?;
+    let (draw, rest) = rest.split_first_chunk::<16>()?;
+    let (peer, bytes) = rest.split_first()?;
+    Some(Record::Delivery {
+        reading: eight(*reading),
+        draw,
+        peer: *peer,
+        bytes,
+    })
+}
+
 fn clock(value: &[u8]) -> Option<Record<'_>>
     ensures { seen result ≡ read_clock value.now }
 {
@@ -132,12 +182,13 @@ fn clock(value: &[u8]) -> Option<Record<'_>>
 }
 
 impl<'a> Record<'a> {
-    // What a field of a tape asks. None where its tag is unknown, or its value has a wrong size. A name, and no `TryFrom`:
-    // the error of a conversion could tell no more than None.
+    /// What a field of a tape asks. None where its tag is unknown, or its value has a wrong size: 27 bytes for a fit-out,
+    /// whose last is 0 or 1, 1 for a link, 8 for the clock, 14 for a reply; at least 17 for a subscriber, 9 for an
+    /// initiation, 8 for a Visitor start, 16 for a network proof, 25 for a delivery. Such a record is refused with 5 (the
+    /// first with 10) and no call looks at it.
     pub fn read(field: Field<'a>) -> Option<Record<'a>>
         ensures { seen result ≡ read_entry field.entry.tag field.entry.value.now }
     {
-        // The tags of a tape stand here alone: an enum of them would be no plainer, since it would be matched once more.
         match field.tag {
             0x10 => fit_out(field.value),
             0x11 => link(field.value),
@@ -146,6 +197,8 @@ impl<'a> Record<'a> {
             0x21 => read_initiation(field.value).map(Record::InitiationWithValues),
             0x22 => visitor_start(field.value),
             0x23 => network_proof(field.value),
+            0x24 => reply(field.value),
+            0x25 => delivery(field.value),
             0x26 => clock(field.value),
             _ => None,
         }

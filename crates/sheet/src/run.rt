@@ -68,7 +68,8 @@ fn run_all(tape: &[u8], sheet: &mut Vec<u8>) -> Result<(), AllocError>
     }
 }
 
-// Adds the sheet of a tape to a vector; an error only where its room does not suffice and memory is wanting.
+/// Adds the sheet of a tape to a vector: one record for each record of the tape, up to where the run ends. An error only
+/// where the vector's room does not suffice and memory is wanting; then part of the sheet may have been added.
 pub fn sheet(tape: &[u8], sheet: &mut Vec<u8>) -> Result<(), AllocError>
     ensures value { Adds result sheet.old sheet.new (sheet_of tape.now) }
     ensures cases { CasesStand }

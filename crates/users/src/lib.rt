@@ -5,8 +5,8 @@ ghost use Rattle.std.specs.Prelude.{◌≡◌, ◌+◌, ◌%◌, ◌^◌, ◌<�
 ghost use Rattle.users.specs.Users.{number, digits, user_number, user_digits, is_user};
 ghost use Rattle.users.specs.Laws.{NoTwoWithOneKey, ZerosDiffer};
 
-// Count of digits × 10^15 + value. The key may be any number: a program in C hands one over, and writing refuses it.
-// So `is_lawful` is a test, and no invariant of the type, which would ask more of callers.
+/// A user number of 1 to 15 digits, kept as count of digits × 10^15 + value, so that 0 and 00 differ. The key may be any number:
+/// a program in C hands one over, and writing refuses one that is no user's (`is_lawful`).
 #[derive(Clone, Copy)]
 pub struct UserNumber {
     pub key: u64,
@@ -24,7 +24,6 @@ fn number_of(text: &[u8]) -> Option<u64>
     let mut n: u64 = 0;
     for c in text {
         match *c {
-            // `as` and no `u64::from`, with which the proof was tried and did not close.
             b'0'..=b'9' => n = n * 10 + (*c - b'0') as u64,
             _ => return None,
         }
@@ -59,8 +58,6 @@ fn put_digits(places: &mut [u8], n: u64)
     ensures { places.new ≡ digits (length places.old) n }
 {
     let mut n = n;
-    // `places.iter_mut().rev()` was tried, and the proof did not close: of a slice behind an adapter of `iter_mut` no
-    // element is known.
     for i in (0..places.len()).rev() {
         places[i] = last_digit(n);
         n /= 10;
@@ -68,8 +65,7 @@ fn put_digits(places: &mut [u8], n: u64)
 }
 
 impl UserNumber {
-    // The user number that these digits write. A name, and no `TryFrom<&[u8]>`: it says what the bytes are, and the error
-    // of a conversion could tell no more than None.
+    /// The user number that these bytes write; None where they are not 1 to 15 ASCII digits.
     pub fn from_digits(text: &[u8]) -> Option<UserNumber>
         ensures value { result ≡ user_number text.now }
         ensures lawful { IfSome result (λ u. is_user u ≡ true) }
@@ -79,7 +75,7 @@ impl UserNumber {
         parse(text)
     }
 
-    // Whether the key is that of a user number.
+    /// Whether the key is that of a user number.
     pub fn is_lawful(self) -> bool
         ensures { result ≡ is_user self }
     {
@@ -87,7 +83,7 @@ impl UserNumber {
         (1..=15).contains(&count) && self.key % COUNT < 10u64.pow(count as u32)
     }
 
-    // How many digits it has.
+    /// How many digits it has.
     pub fn count(self) -> usize
         ensures count { result ≡ length (user_digits self) }
         ensures bound { is_user self ≡ true → result ≤ 15 }
@@ -95,7 +91,7 @@ impl UserNumber {
         (self.key / COUNT) as usize
     }
 
-    // The last of its digits, as many as there are places; with a place for each digit, all of them.
+    /// The last of its digits, as many as there are places; with a place for each digit, all of them.
     pub fn put(self, places: &mut [u8])
         ensures last { places.new ≡ digits (length places.old) (self.key % 1000000000000000) }
         ensures all { length places.old ≡ length (user_digits self) → places.new ≡ user_digits self }

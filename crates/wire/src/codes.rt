@@ -1,13 +1,13 @@
-// The code lists: what each number in a field of one byte stands for. Each has conversions of its own: `as` works
-// on no type parameter, and a search among all values of a list would have to be given the list once more.
+// The code lists: what each number in a field of one byte stands for.
 ghost use Rattle.std.specs.Prelude.{◌≡◌};
 ghost use Rattle.std.specs.Option.{ok_or};
 ghost use Rattle.wire.specs.Codes.{kind_number, kind_of, operation_number, operation_of, verdict_number, verdict_of, error_number, error_of, problem_number};
 
-// A number that stands for nothing in its list.
+/// A number that stands for nothing in its list.
 #[derive(Clone, Copy, PartialEq, Eq, Debug)]
 pub struct UnknownNumber(pub u8);
 
+/// The kinds of an APDU, by their numbers.
 #[derive(Clone, Copy, PartialEq, Eq, Debug)]
 pub enum Kind {
     Invoke = 1,
@@ -40,6 +40,7 @@ impl TryFrom<u8> for Kind {
     }
 }
 
+/// What an invoke asks for, by its number.
 #[derive(Clone, Copy, PartialEq, Eq, Debug)]
 pub enum Operation {
     AuthWtmUser = 1,
@@ -74,7 +75,7 @@ impl TryFrom<u8> for Operation {
     }
 }
 
-// Whether a user's response was the expected one.
+/// Whether a user's response was the expected one.
 #[derive(Clone, Copy, PartialEq, Eq, Debug)]
 pub enum Verdict {
     Correct = 0,
@@ -103,7 +104,7 @@ impl TryFrom<u8> for Verdict {
     }
 }
 
-// Why an invoke is answered by an error.
+/// Why an invoke is answered by an error.
 #[derive(Clone, Copy, PartialEq, Eq, Debug)]
 pub enum ErrorCode {
     InvalidServedUserNr = 1,
@@ -138,7 +139,7 @@ impl TryFrom<u8> for ErrorCode {
     }
 }
 
-// Why an invoke is answered by a reject. A reject that is received may have any number.
+/// Why an invoke is answered by a reject. A reject that is received may have any number.
 #[derive(Clone, Copy, PartialEq, Eq, Debug)]
 pub enum Problem {
     // No operation has this number.

@@ -4,27 +4,28 @@ ghost use Rattle.std.specs.Option.{option_map};
 ghost use Rattle.std.specs.Iterator.{at_most};
 ghost use Rattle.wire.specs.Fields.{next_field, value, after, unread, is_nothing};
 
+/// A tag and its value, of at most 65,535 bytes.
 #[derive(Clone, Copy)]
 pub struct Field<'a> {
     pub tag: u8,
     pub value: &'a [u8],
 }
 
-// The bytes that are not read yet. `unread` names them, and no model does: the clauses and laws of the crates above
-// speak of it.
+/// The bytes that are not read yet (`unread`), from which fields are taken one by one.
 #[derive(Drop)]
 pub struct Reader<'a> {
     rest: &'a [u8],
 }
 
 impl<'a> Reader<'a> {
+    /// A reader of these bytes, from the first on.
     pub fn new(bytes: &'a [u8]) -> Reader<'a>
         ensures { unread result ≡ bytes.now }
     {
         Reader { rest: bytes }
     }
 
-    // The value of the field with this tag, if it is the next one; the reader then stands behind it.
+    /// The value of the field with this tag, if it is the next one; the reader then stands behind it.
     pub fn take_value(&mut self, tag: u8) -> Option<&'a [u8]>
         ensures value { option_map (λ x. x.now) result ≡ value tag (unread self.old) }
         ensures after { unread self.new ≡ after tag (unread self.old) }
@@ -35,6 +36,7 @@ impl<'a> Reader<'a> {
         Some(field.value)
     }
 
+    /// Whether nothing is left to read.
     pub fn is_done(&self) -> bool
         ensures { result ≡ is_nothing (unread self.now) }
     {

@@ -1,0 +1,12 @@
+-- Numbers of this exchange.
+use Rattle.std.specs.Prelude.{ℕ, ◌+◌}
+use Rattle.exchange.specs.declared.numbers.Asked.{Asked}
+use Rattle.exchange.specs.declared.numbers.OwnNumber.{OwnNumber}
+
+-- the number after one
+abbrev pub following : OwnNumber → OwnNumber
+following number = record { 0 = number.0 + 1 }
+
+-- the invoke to a peer under a number
+abbrev pub asking : OwnNumber → ℕ → Asked
+asking number peer = record { peer = peer; id = number }

@@ -1,0 +1,60 @@
+-- Machines that tell a verdict without a reply.
+use Rattle.std.specs.Prelude.{ℕ, List, Ok, Err, Result}
+use Rattle.refusal.specs.declared.Refusal.{Refusal}
+use Rattle.wire.specs.declared.codes.Verdict.TheVariants.{Correct, Incorrect}
+use Rattle.apdu.specs.declared.apdus.Apdu.{Apdu}
+use Rattle.apdu.specs.declared.apdus.Body.{Body}
+use Rattle.apdu.specs.declared.apdus.Body.TheVariants as body
+use Rattle.apdu.specs.declared.apdus.ByOperation.TheVariants.{AuthWtmUser}
+use Rattle.apdu.specs.declared.apdus.NoApdu.{NoApdu}
+use Rattle.apdu.specs.Decode.{received_as}
+use Rattle.exchange.specs.declared.outcome.Done.{Done}
+use Rattle.exchange.specs.declared.outcome.Done.TheVariants.{Reported}
+use Rattle.exchange.specs.declared.outcome.Report.TheVariants as report
+use Rattle.exchange.specs.declared.service.Service.{Service}
+use Rattle.exchange.specs.Calls.{After, sends}
+use Rattle.exchange.specs.Entry.{fresh}
+use Rattle.exchange.specs.Examples.{example_fit_out}
+use Rattle.exchange.specs.Runs.{Delivery, Machine, called}
+use Rattle.exchange.specs.Service.{read_at}
+use Rattle.exchange.specs.Verdicts.{VerdictsBy}
+use Rattle.exchange.specs.Wrong.{giving}
+
+-- an invoke of authWtmUser is answered at once, with verdict correct, and its user never asked
+abbrev pub vouched_for : Service → ℕ → ℕ → List ℕ → After → ℕ → Body → After
+vouched_for s reading peer out a id (body.Invoke (AuthWtmUser argument)) =
+    sends (read_at s reading) peer (record { id = id; body = body.ReturnResult (AuthWtmUser Correct) }) out
+vouched_for s reading peer out a id b = a
+
+abbrev pub vouched : Service → ℕ → ℕ → List ℕ → After → Result Apdu NoApdu → After
+vouched s reading peer out a (Ok apdu) = vouched_for s reading peer out a apdu.id apdu.body
+vouched s reading peer out a (Err e) = a
+
+abbrev pub vouches_unasked : Machine
+vouches_unasked m s (Delivery reading peer draw bytes links subscribers out) =
+    vouched s reading peer out (called m s (Delivery reading peer draw bytes links subscribers out)) (received_as bytes)
+vouches_unasked m s c = called m s c
+
+-- a failure is reported as verdict correct
+abbrev pub failure_as_correct : Result Done Refusal → Result Done Refusal
+failure_as_correct (Ok (Reported name (report.Failure cause))) = Ok (Reported name (report.Verdict Correct))
+failure_as_correct r = r
+
+abbrev pub vouches_where_it_failed : Machine
+vouches_where_it_failed m s c = giving failure_as_correct (called m s c)
+
+-- a verdict that came is reported as correct, whatever it was
+abbrev pub incorrect_as_correct : Result Done Refusal → Result Done Refusal
+incorrect_as_correct (Ok (Reported name (report.Verdict Incorrect))) = Ok (Reported name (report.Verdict Correct))
+incorrect_as_correct r = r
+
+abbrev pub turns_what_came : Machine
+turns_what_came m s (Delivery reading peer draw bytes links subscribers out) =
+    giving incorrect_as_correct (called m s (Delivery reading peer draw bytes links subscribers out))
+turns_what_came m s c = called m s c
+
+-- no verdict is told without a reply: of these machines it is false
+pub record WrongReportsAreRefuted : Type 0 where
+  pub a_verdict_is_sent_on_a_reply : VerdictsBy vouches_unasked (fresh example_fit_out) → ⊥
+  pub a_failure_is_no_verdict : VerdictsBy vouches_where_it_failed (fresh example_fit_out) → ⊥
+  pub a_verdict_is_reported_as_it_came : VerdictsBy turns_what_came (fresh example_fit_out) → ⊥

@@ -1,0 +1,71 @@
+// How far the run found a record of a tape right, and so how much of it may be shown.
+//
+// A tape may be put together wrongly: where a time, a challenge, digits or an APDU belong, the bytes of a subscriber's
+// key may stand. So no part of a record is shown before the run has found it right, bytes that are no user number and no
+// APDU are only counted, and a draw is not shown at all.
+//
+// What remains is a key at a place where any bytes are right, which cannot be told from what belongs there:
+// - the challenge of a network proof that is done, and the response of a reply that is done;
+// - the challenges, responses and parameters of an APDU that is taken or sent, also where they are drawn;
+// - 1 to 15 bytes that are ASCII digits, where digits belong;
+// - a reading that was in time and is no higher than 2^40, of a record that is done or refused with 6 to 9 (or with 4 for
+//   its peer alone), and the one or two bytes of a peer or a dialogue's name, of an invoke id, an algorithm's number or a
+//   problem;
+// - the size of such a record, where a length was wrong and the key stands as the next record's head.
+ghost use Rattle.std.specs.Prelude.{◌≡◌};
+ghost use Rattle.sheet.specs.Lines.{answer_of};
+ghost use Rattle.explain.specs.Progress.{refused_with, answered_with, given};
+
+use refusal::Refusal;
+use sheet::Answer;
+use wire::Field;
+
+/// How far a record was found right, by what came of it.
+#[derive(Clone, Copy, PartialEq, Eq)]
+pub enum Progress {
+    /// It is done: all of it is right.
+    Done,
+    /// It is refused with 6 to 9: its reading and what it dials are right, and what it asks cannot be done now.
+    Addressed,
+    /// It is refused with 4: its reading is right, and something that it dials is not.
+    Misdialled,
+    /// It is refused with another number: nothing of it is known to be right.
+    Nowhere,
+}
+
+fn progress_of(refusal: Refusal) -> Progress
+    ensures { result ≡ refused_with refusal }
+{
+    match refusal {
+        Refusal::Stray | Refusal::Twice | Refusal::Full | Refusal::Spent => Progress::Addressed,
+        Refusal::Misdialled => Progress::Misdialled,
+        _ => Progress::Nowhere,
+    }
+}
+
+impl Progress {
+    /// The progress of the record that has this outcome on the sheet.
+    pub fn of(outcome: Field<'_>) -> Progress
+        ensures { result ≡ answered_with (answer_of outcome.entry.tag) outcome.entry.value.now }
+    {
+        match (Answer::try_from(outcome.tag), outcome.value) {
+            (Ok(Answer::Refused), [number]) => {
+                Refusal::try_from(*number).map_or(Progress::Nowhere, progress_of)
+            }
+            (Ok(Answer::Refused), _) | (Err(_), _) => Progress::Nowhere,
+            _ => Progress::Done,
+        }
+    }
+
+    /// The progress of a record whose digits, or whose APDU, are as they should be, or are not. Where they are not, a
+    /// record that is refused with 4 may be put together wrongly as a whole.
+    pub fn given(self, is_well_formed: bool) -> Progress
+        ensures { result ≡ given self is_well_formed }
+    {
+        if is_well_formed || self != Progress::Misdialled {
+            self
+        } else {
+            Progress::Nowhere
+        }
+    }
+}
