@@ -1,4 +1,5 @@
 mod Computed
-mod Keys
+mod RowKeys
 mod Rows
 mod Masked
+mod Questions

@@ -1,10 +1,9 @@
-pub mod Directions
+pub mod Direction
 pub mod Meaning
+pub mod Questions
 pub mod Words
 pub mod Xtea
 pub mod Published
-pub mod Bytes
-pub mod Keys
+pub mod Row
 pub mod Card
 pub mod Operator
-pub mod Sizes

@@ -1,10 +1,12 @@
 ghost use Rattle.std.specs.Prelude.{◌≡◌};
-ghost use Rattle.algorithm.specs.Directions.{direction_number};
+ghost use Rattle.algorithm.specs.Direction.{direction_number};
 
 /// Whose proof a session key is for.
 #[derive(Clone, Copy, PartialEq, Eq, Debug)]
 pub enum Direction {
+    /// The user's, who proves itself to the network.
     User = 1,
+    /// The network's, which proves itself to the user.
     Network = 2,
 }
 

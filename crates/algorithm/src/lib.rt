@@ -2,6 +2,7 @@
 #![tactic(auto)]
 
 mod algorithm;
+mod block;
 mod card;
 mod direction;
 mod found;

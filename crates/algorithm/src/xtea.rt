@@ -1,12 +1,22 @@
 // XTEA, Needham and Wheeler 1997, with 32 cycles.
 ghost use Rattle.std.specs.Prelude.{◌≡◌, ◌+◌, ◌≤◌, ◌++◌, length};
 ghost use Rattle.algorithm.specs.Words.{word, key_words, start, block_of};
-ghost use Rattle.algorithm.specs.Xtea.{cycle, cycles, enciphered, last_changed, xtea_meaning};
+ghost use Rattle.algorithm.specs.Xtea.{cycle, cycles, cycle_count, enciphered, last_changed, xtea_meaning, xtea_is_sized};
 ghost use Rattle.algorithm.specs.Published.{PublishedStand};
-ghost use Rattle.algorithm.specs.Sizes.{xtea_is_sized};
 
 use crate::algorithm::Algorithm;
+use crate::block::block;
 use crate::direction::Direction;
+use values::{Challenge, Parameter, Response, SessionKey, UserKey};
+
+// The number of the algorithm.
+const XTEA_NUMBER: u8 = 1;
+
+// How many cycles a block goes through.
+const CYCLES: usize = 32;
+
+// What a cycle adds to the running sum.
+const DELTA: u32 = 0x9E37_79B9;
 
 // A block in work, and the running sum.
 #[derive(Clone, Copy)]
@@ -15,8 +25,6 @@ struct Work {
     v1: u32,
     sum: u32,
 }
-
-const DELTA: u32 = 0x9E37_79B9;
 
 // The word of four bytes from a place on, high byte first.
 fn word(bytes: &[u8], at: usize) -> u32
@@ -59,10 +67,10 @@ impl Work {
     }
 
     fn cycles(self, key: &[u32; 4]) -> Work
-        ensures { result ≡ cycles key.now 32 self }
+        ensures { result ≡ cycles key.now cycle_count self }
     {
         let mut work = self;
-        for _ in 0..32usize {
+        for _ in 0..CYCLES {
             work = work.cycle(key);
         }
         work
@@ -97,7 +105,7 @@ pub fn encipher(key: &[u8; 16], block: &[u8; 8]) -> [u8; 8]
 }
 
 // A parameter with its last byte changed.
-fn last_changed(parameter: &[u8; 8], by: u8) -> [u8; 8]
+fn last_changed(parameter: &Parameter, by: u8) -> Parameter
     ensures { result ≡ last_changed parameter.now by }
 {
     let mut changed = *parameter;
@@ -113,10 +121,15 @@ impl Algorithm for Xtea {
     ghost meaning = { λ _. xtea_meaning };
 
     fn number(&self) -> u8 {
-        1
+        XTEA_NUMBER
     }
 
-    fn session(&mut self, direction: Direction, key: &[u8; 16], parameter: &[u8; 8]) -> [u8; 16] {
+    fn session(
+        &mut self,
+        direction: Direction,
+        key: &UserKey,
+        parameter: &Parameter,
+    ) -> SessionKey {
         let d = u8::from(direction);
         let first = encipher(key, &last_changed(parameter, d));
         let second = encipher(key, &last_changed(parameter, d + 2));
@@ -125,8 +138,8 @@ impl Algorithm for Xtea {
         session
     }
 
-    fn response(&mut self, session: &[u8; 16], challenge: &[u8; 8]) -> [u8; 4] {
-        let [a, b, c, d, ..] = encipher(session, challenge);
+    fn response(&mut self, session: &SessionKey, challenge: &Challenge) -> Response {
+        let [a, b, c, d, ..] = encipher(session, &block(challenge));
         [a, b, c, d]
     }
 

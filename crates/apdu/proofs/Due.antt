@@ -1,7 +1,5 @@
--- What is read has a lawful id, and so has an invoke that is due a reject. Assumes nothing.
-use Rattle.std.proofs.Common.{◌≡◌, ℕ, ◌≤◌, ◌+◌, ◌*◌, ◌&&◌, eqb, leb, List, length, Some, None, Ok, Err, Option, Result, sym, refl, ap, subst, get_or}
-use Rattle.std.proofs.lemmas.Bool.{leb-true, and_parts}
-use Rattle.std.proofs.lemmas.Option.{cond_some}
+-- What is read is an APDU, and an invoke that is due a reject has an id of at least 1. Assumes nothing.
+use Rattle.std.proofs.Common.{◌≡◌, ℕ, ◌≤◌, List, Some, None, Ok, Err, Option, Result, sym, refl, ap, subst}
 use Rattle.std.specs.Option.{option_map, ok_or}
 use Rattle.wire.specs.declared.codes.Kind.{Kind}
 use Rattle.wire.specs.declared.codes.Kind.TheVariants as kind
@@ -12,14 +10,15 @@ use Rattle.apdu.specs.declared.apdus.NoApdu.{NoApdu}
 use Rattle.apdu.specs.declared.apdus.NoApdu.TheVariants.{RejectDue, Garbled}
 use Rattle.apdu.specs.declared.apdus.Body.TheVariants as body
 use Rattle.wire.specs.Codes.{operation_of}
-use Rattle.wire.specs.Fields.{value, after}
-use Rattle.apdu.specs.Encode.{body_right}
-use Rattle.apdu.specs.Laws.{Bytes, Lawful}
-use Rattle.apdu.specs.Decode.{result_map, argument, operation_in, invoke_in, invoke_with, result_in, body_in, body_after, kind_in, with_id, received_as}
+use Rattle.wire.specs.Fields.{Bytes, value, after}
+use Rattle.wire.specs.Tags as tag
+use Rattle.wire.specs.FieldValues.{must}
+use Rattle.values.specs.InvokeId.{id_in}
+use Rattle.values.proofs.InvokeIds.{id_in_back}
+use Rattle.apdu.specs.Laws.{Lawful}
+use Rattle.apdu.specs.Decode.{result_map, argument_in, operation_in, invoke_numbered, invoke_with, result_in, body_in, body_after, kind_in, with_id, received_as}
 use Rattle.apdu.specs.Grammar.{return_error, reject}
-use Rattle.apdu.specs.Rows.{shaped}
-use Rattle.apdu.specs.Tags as tag
-use Rattle.apdu.specs.Values.{id_in, must}
+use Rattle.apdu.specs.Shapes.{shaped}
 use Rattle.apdu.proofs.ReadWritesBack.{read_writes_back}
 
 err_back : {A B E : Type 0} (f : A → B) (r : Result A E) (e : E) → result_map f r ≡ Err e → r ≡ Err e
@@ -32,9 +31,9 @@ ok_or_err (Some x) e d h = cc
 
 due_with : (i : ℕ) (o : Option Operation) (bs : List ℕ) (id : ℕ) (p : Problem) → invoke_with i o bs ≡ Err (RejectDue id p) → i ≡ id
 due_with i None bs id p h = cc
-due_with i (Some o) bs id p h = let q = (ok_or_err (argument o bs) _ _ h).1 in cc
+due_with i (Some o) bs id p h = let q = (ok_or_err (argument_in o bs) _ _ h).1 in cc
 
-due_in : (i : ℕ) (o : Option ℕ) (bs : List ℕ) (id : ℕ) (p : Problem) → invoke_in i o bs ≡ Err (RejectDue id p) → i ≡ id
+due_in : (i : ℕ) (o : Option ℕ) (bs : List ℕ) (id : ℕ) (p : Problem) → invoke_numbered i o bs ≡ Err (RejectDue id p) → i ≡ id
 due_in i None bs id p h = cc
 due_in i (Some n) bs id p h = due_with i (operation_of n) bs id p h
 
@@ -43,7 +42,7 @@ garbled_is o id p h = let q = (ok_or_err o _ _ h).1 in cc
 
 -- what follows the invoke id is what makes an invoke due a reject
 abbrev DueBy : ℕ → List ℕ → ℕ → Problem → Type 0
-DueBy i bs id p = invoke_in i (operation_in bs) (after tag.operation bs) ≡ Err (RejectDue id p)
+DueBy i bs id p = invoke_numbered i (operation_in bs) (after tag.operation bs) ≡ Err (RejectDue id p)
 
 due_body : (k : Kind) (i : ℕ) (bs : List ℕ) (id : ℕ) (p : Problem) → body_in k i bs ≡ Err (RejectDue id p) → (k ≡ kind.Invoke) × DueBy i bs id p
 due_body kind.Invoke i bs id p h = (refl, err_back body.Invoke _ _ h)
@@ -61,20 +60,12 @@ due_after (Some k) (Some i) bs id p h =
 
 lawful_id : (o : Option (List ℕ)) (id : ℕ) → must id_in o ≡ Some id → 1 ≤ id
 lawful_id None id h = cc
-lawful_id (Some v) id h =
-    let n : ℕ = get_or v 0 0 * 256 + get_or v 1 0 in
-    let q = cond_some (eqb (length v) 2 && leb 1 n) n id h in
-    let low : 1 ≤ n = leb-true _ _ (and_parts (eqb (length v) 2) (leb 1 n) q.0).1 in
-    let is : n ≡ id = q.1 in
-    rw (is) at low
+lawful_id (Some v) id h = (id_in_back v id h).1.1
 
 pub due_id : (bs : List ℕ) (id : ℕ) (p : Problem) → received_as bs ≡ Err (RejectDue id p) → 1 ≤ id
 due_id bs id p h = lawful_id (value tag.id (after tag.kind bs)) id (due_after (kind_in bs) _ _ id p h).1.0
 
 pub read_lawful : (bs : List ℕ) (r : Result Apdu NoApdu) → Bytes bs → r ≡ received_as bs → Lawful r
-read_lawful bs (Ok a) bytes e =
-    let w = read_writes_back bs a bytes (sym e) in
-    let p = and_parts (leb 1 a.id) (body_right a.body) w.1.0 in
-    (leb-true _ _ p.0, p.1)
+read_lawful bs (Ok a) bytes e = (read_writes_back bs a bytes (sym e)).1.0
 read_lawful bs (Err (RejectDue id problem)) bytes e = due_id bs id problem (sym e)
 read_lawful bs (Err Garbled) bytes e = tt

@@ -1,12 +1,12 @@
-pub mod Writes
-pub mod Options
 pub mod Rows
 pub mod Shapes
-pub mod Formats
-pub mod Told
+pub mod Grammar
 pub mod Operations
 pub mod WrittenReadsBack
 pub mod ReadWritesBack
 pub mod Worked
 pub mod Due
 pub mod Rejects
+pub mod ApduRow
+pub mod TagsRise
+pub mod WithinLongest

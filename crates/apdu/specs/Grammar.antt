@@ -1,11 +1,16 @@
--- The grammar: for each argument and result, the row of tags that tells it.
-use Rattle.std.specs.Prelude.{ℕ, true, List, [], ◌∷◌, ◌++◌, Some, None, Option}
+-- The grammar: the shape of each argument and result, of an error and of a reject.
+use Rattle.std.specs.Prelude.{ℕ, List, [], ◌∷◌, Some, None, Option}
 use Rattle.std.specs.Option.{option_map}
 use Rattle.wire.specs.declared.codes.Verdict.{Verdict}
 use Rattle.wire.specs.declared.codes.ErrorCode.{ErrorCode}
-use Rattle.apdu.specs.declared.apdus.AuthUnit.{AuthUnit}
-use Rattle.apdu.specs.declared.apdus.AuthSession.{AuthSession}
-use Rattle.apdu.specs.declared.apdus.AuthWtmArg.{AuthWtmArg}
+use Rattle.wire.specs.Codes.{verdict_of, verdict_number, error_of, error_number}
+use Rattle.wire.specs.Fields.{flagged}
+use Rattle.wire.specs.Tags as tag
+use Rattle.wire.specs.FieldValues.{bind as ◌>>=◌, one, exact, must, may, flag, either}
+use Rattle.values.specs.declared.proof.AuthUnit.{AuthUnit}
+use Rattle.values.specs.Challenge.{challenge_of}
+use Rattle.values.specs.Proof.{unit_value, session_value, unit_of, session_of}
+use Rattle.values.specs.Sizes.{response_size}
 use Rattle.apdu.specs.declared.apdus.WtatParamArg.{WtatParamArg}
 use Rattle.apdu.specs.declared.apdus.WtanParamArg.{WtanParamArg}
 use Rattle.apdu.specs.declared.apdus.WtatInfo.{WtatInfo}
@@ -13,121 +18,111 @@ use Rattle.apdu.specs.declared.apdus.WtatInfo.TheVariants as wtat
 use Rattle.apdu.specs.declared.apdus.WtatParamRes.{WtatParamRes}
 use Rattle.apdu.specs.declared.apdus.WtanParamRes.{WtanParamRes}
 use Rattle.apdu.specs.declared.apdus.WtanParamRes.TheVariants as wtan
-use Rattle.apdu.specs.Tags as tag
-use Rattle.wire.specs.Codes.{verdict_of, verdict_number, error_of, error_number}
-use Rattle.apdu.specs.Rows.{at, Shape}
-use Rattle.apdu.specs.Operations.{Shapes}
-use Rattle.users.specs.Users.{user_number, user_digits, is_user}
-use Rattle.apdu.specs.Values.{bind, one, exact, unit_of, session_of, must, may, flag, flagged}
+use Rattle.apdu.specs.Shapes.{at, Shape}
 
--- values as they are written
-
-abbrev pub unit_value : AuthUnit → List ℕ
-unit_value u = u.challenge ++ u.response
-
-abbrev pub session_value : AuthSession → List ℕ
-session_value s = s.key ++ s.parameter
-
--- one of two fields, and not both
-abbrev pub either : {A : Type 0} → (List ℕ → Option A) → (List ℕ → Option A) → Option (List ℕ) → Option (List ℕ) → Option A
-either f g None None = None
-either f g (Some v) None = f v
-either f g None (Some w) = g w
-either f g (Some v) (Some w) = None
-
--- authWtmUser: 04 user number, 08 unit or none
-abbrev pub auth_wtm_arg : Shape AuthWtmArg
+-- authWtmUser: 08 unit or none
+abbrev pub auth_wtm_arg : Shape (Option AuthUnit)
 auth_wtm_arg =
     record {
-      row = tag.user ∷ tag.unit ∷ [];
-      says = λ vs. bind (must user_number (at vs 0)) λ user. bind (may unit_of (at vs 1)) λ unit. Some (record { user = user; unit = unit });
-      told = λ a. Some (user_digits a.user) ∷ option_map unit_value a.unit ∷ [];
-      right = λ a. is_user a.user;
+      tags = tag.unit ∷ [];
+      from_values = λ vs. may unit_of (at vs 0);
+      values_of = λ unit. option_map unit_value unit ∷ [];
     }
 
--- getWtatParam, wtatParamEnq: 04 user number, 05 canCompute or none, 06 challenge or none
+-- getWtatParam, wtatParamEnq: 05 canCompute or none, 06 challenge or none
 abbrev pub wtat_param_arg : Shape WtatParamArg
 wtat_param_arg =
     record {
-      row = tag.user ∷ tag.can_compute ∷ tag.challenge ∷ [];
-      says = λ vs. bind (must user_number (at vs 0)) λ user. bind (flag (at vs 1)) λ computes. bind (may (exact tag.challenge_size) (at vs 2)) λ challenge. Some (record { user = user; computes = computes; challenge = challenge });
-      told = λ a. Some (user_digits a.user) ∷ flagged a.computes ∷ a.challenge ∷ [];
-      right = λ a. is_user a.user;
+      tags = tag.can_compute ∷ tag.challenge ∷ [];
+      from_values = λ vs. do
+        computes ← flag (at vs 0)
+        challenge ← may challenge_of (at vs 1)
+        Some (record { computes = computes; challenge = challenge });
+      values_of = λ a. flagged a.computes ∷ a.challenge ∷ [];
     }
 
--- getWtanParam, wtanParamEnq: 04 user number, 05 canCompute or none, 06 challenge, 07 algorithm number
+-- getWtanParam, wtanParamEnq: 05 canCompute or none, 06 challenge, 07 algorithm number
 abbrev pub wtan_param_arg : Shape WtanParamArg
 wtan_param_arg =
     record {
-      row = tag.user ∷ tag.can_compute ∷ tag.challenge ∷ tag.algorithm ∷ [];
-      says = λ vs. bind (must user_number (at vs 0)) λ user. bind (flag (at vs 1)) λ computes. bind (must (exact tag.challenge_size) (at vs 2)) λ challenge. bind (must one (at vs 3)) λ algorithm. Some (record { user = user; computes = computes; challenge = challenge; algorithm = algorithm });
-      told = λ a. Some (user_digits a.user) ∷ flagged a.computes ∷ Some a.challenge ∷ Some (a.algorithm ∷ []) ∷ [];
-      right = λ a. is_user a.user;
+      tags = tag.can_compute ∷ tag.challenge ∷ tag.algorithm ∷ [];
+      from_values = λ vs. do
+        computes ← flag (at vs 0)
+        challenge ← must challenge_of (at vs 1)
+        algorithm ← must one (at vs 2)
+        Some (record { computes = computes; challenge = challenge; algorithm = algorithm });
+      values_of = λ a. flagged a.computes ∷ Some a.challenge ∷ Some (a.algorithm ∷ []) ∷ [];
+    }
+
+-- one byte that is a code of a type: its number, and the value with a number
+abbrev pub code_shape : {A : Type 0} → ℕ → (A → ℕ) → (ℕ → Option A) → Shape A
+code_shape t number of =
+    record {
+      tags = t ∷ [];
+      from_values = λ vs. do
+        n ← must one (at vs 0)
+        of n;
+      values_of = λ x. Some (number x ∷ []) ∷ [];
     }
 
 -- authWtmUser: 0B verdict
 abbrev pub auth_wtm_res : Shape Verdict
-auth_wtm_res =
-    record {
-      row = tag.verdict ∷ [];
-      says = λ vs. bind (must one (at vs 0)) verdict_of;
-      told = λ v. Some (verdict_number v ∷ []) ∷ [];
-      right = λ v. true;
-    }
+auth_wtm_res = code_shape tag.verdict verdict_number verdict_of
 
+-- one of unit and session
 abbrev pub wtat_info : Option (List ℕ) → Option (List ℕ) → Option WtatInfo
-wtat_info unit session = either (λ v. option_map wtat.Unit (unit_of v)) (λ v. option_map wtat.Session (session_of v)) unit session
+wtat_info unit session =
+    either (λ v. option_map wtat.Unit (unit_of v)) (λ v. option_map wtat.Session (session_of v))
+    unit session
 
-abbrev pub wtat_told : WtatInfo → List (Option (List ℕ))
-wtat_told (wtat.Unit u) = Some (unit_value u) ∷ None ∷ []
-wtat_told (wtat.Session s) = None ∷ Some (session_value s) ∷ []
+-- its values, one of unit and session
+abbrev pub wtat_info_values : WtatInfo → List (Option (List ℕ))
+wtat_info_values (wtat.Unit u) = Some (unit_value u) ∷ None ∷ []
+wtat_info_values (wtat.Session s) = None ∷ Some (session_value s) ∷ []
 
 -- getWtatParam, wtatParamEnq: 07 algorithm number, then 08 unit or 09 session
 abbrev pub wtat_param_res : Shape WtatParamRes
 wtat_param_res =
     record {
-      row = tag.algorithm ∷ tag.unit ∷ tag.session ∷ [];
-      says = λ vs. bind (must one (at vs 0)) λ algorithm. bind (wtat_info (at vs 1) (at vs 2)) λ info. Some (record { algorithm = algorithm; info = info });
-      told = λ r. Some (r.algorithm ∷ []) ∷ wtat_told r.info;
-      right = λ r. true;
+      tags = tag.algorithm ∷ tag.unit ∷ tag.session ∷ [];
+      from_values = λ vs. do
+        algorithm ← must one (at vs 0)
+        info ← wtat_info (at vs 1) (at vs 2)
+        Some (record { algorithm = algorithm; info = info });
+      values_of = λ r. Some (r.algorithm ∷ []) ∷ wtat_info_values r.info;
     }
 
-abbrev pub wtan_told : WtanParamRes → List (Option (List ℕ))
-wtan_told (wtan.Session s) = Some (session_value s) ∷ None ∷ []
-wtan_told (wtan.Response r) = None ∷ Some r ∷ []
+-- one of session and response
+abbrev pub wtan_param : Option (List ℕ) → Option (List ℕ) → Option WtanParamRes
+wtan_param session response =
+    either
+    (λ v. option_map wtan.Session (session_of v))
+    (λ v. option_map wtan.Response (exact response_size v))
+    session response
+
+-- its values, one of session and response
+abbrev pub wtan_param_values : WtanParamRes → List (Option (List ℕ))
+wtan_param_values (wtan.Session s) = Some (session_value s) ∷ None ∷ []
+wtan_param_values (wtan.Response r) = None ∷ Some r ∷ []
 
 -- getWtanParam, wtanParamEnq: 09 session or 0A response
 abbrev pub wtan_param_res : Shape WtanParamRes
 wtan_param_res =
     record {
-      row = tag.session ∷ tag.response ∷ [];
-      says = λ vs. either (λ v. option_map wtan.Session (session_of v)) (λ v. option_map wtan.Response (exact tag.response_size v)) (at vs 0) (at vs 1);
-      told = wtan_told;
-      right = λ r. true;
+      tags = tag.session ∷ tag.response ∷ [];
+      from_values = λ vs. wtan_param (at vs 0) (at vs 1);
+      values_of = wtan_param_values;
     }
 
 -- 0C error
 abbrev pub return_error : Shape ErrorCode
-return_error =
-    record {
-      row = tag.error ∷ [];
-      says = λ vs. bind (must one (at vs 0)) error_of;
-      told = λ e. Some (error_number e ∷ []) ∷ [];
-      right = λ e. true;
-    }
+return_error = code_shape tag.error error_number error_of
 
 -- 0D problem
 abbrev pub reject : Shape ℕ
 reject =
     record {
-      row = tag.problem ∷ [];
-      says = λ vs. must one (at vs 0);
-      told = λ p. Some (p ∷ []) ∷ [];
-      right = λ p. true;
+      tags = tag.problem ∷ [];
+      from_values = λ vs. must one (at vs 0);
+      values_of = λ p. Some (p ∷ []) ∷ [];
     }
-
-abbrev pub arguments : Shapes AuthWtmArg WtatParamArg WtanParamArg
-arguments = record { auth_wtm = auth_wtm_arg; wtat_param = wtat_param_arg; wtan_param = wtan_param_arg }
-
-abbrev pub results : Shapes Verdict WtatParamRes WtanParamRes
-results = record { auth_wtm = auth_wtm_res; wtat_param = wtat_param_res; wtan_param = wtan_param_res }

@@ -1,8 +1,20 @@
 -- What ties reading to writing.
-use Rattle.std.specs.Prelude.{◌≡◌, ℕ, ◌<◌, ◌≤◌, true, List, length, Some, None, Ok, Err, Option, Result, slice_index}
-use Rattle.apdu.specs.declared.apdus.AuthUnit.{AuthUnit}
-use Rattle.apdu.specs.declared.apdus.AuthSession.{AuthSession}
-use Rattle.apdu.specs.declared.apdus.AuthWtmArg.{AuthWtmArg}
+use Rattle.std.specs.Prelude.{◌≡◌, ℕ, ◌<◌, ◌≤◌, true, List, [], ◌∷◌, length, map, Some, Ok, Err, Result}
+use Rattle.std.specs.List.Sorted.{IsStrictlyIncreasing}
+use Rattle.wire.specs.Fields.{Bytes, Cut, next_field}
+use Rattle.wire.specs.FieldValues.{IfAny, OfSize}
+use Rattle.values.specs.Challenge.{IsChallenge}
+use Rattle.values.specs.Proof.{UnitSized, SessionSized}
+use Rattle.values.specs.Sizes.{response_size}
+use Rattle.values.specs.User.{is_user}
+use Rattle.apdu.specs.declared.apdus.Apdu.{Apdu}
+use Rattle.apdu.specs.declared.apdus.Body.{Body}
+use Rattle.apdu.specs.declared.apdus.Body.TheVariants as body
+use Rattle.apdu.specs.declared.apdus.Invoke.{Invoke}
+use Rattle.apdu.specs.declared.apdus.Request.{Request}
+use Rattle.apdu.specs.declared.apdus.Request.TheVariants as request
+use Rattle.apdu.specs.declared.apdus.ReturnResult.{ReturnResult}
+use Rattle.apdu.specs.declared.apdus.ReturnResult.TheVariants as answer
 use Rattle.apdu.specs.declared.apdus.WtatParamArg.{WtatParamArg}
 use Rattle.apdu.specs.declared.apdus.WtanParamArg.{WtanParamArg}
 use Rattle.apdu.specs.declared.apdus.WtatInfo.{WtatInfo}
@@ -10,93 +22,95 @@ use Rattle.apdu.specs.declared.apdus.WtatInfo.TheVariants as wtat
 use Rattle.apdu.specs.declared.apdus.WtatParamRes.{WtatParamRes}
 use Rattle.apdu.specs.declared.apdus.WtanParamRes.{WtanParamRes}
 use Rattle.apdu.specs.declared.apdus.WtanParamRes.TheVariants as wtan
-use Rattle.apdu.specs.declared.apdus.ByOperation.{ByOperation}
-use Rattle.apdu.specs.declared.apdus.ByOperation.TheVariants.{AuthWtmUser, GetWtatParam, WtatParamEnq, GetWtanParam, WtanParamEnq}
-use Rattle.apdu.specs.declared.apdus.Body.{Body}
-use Rattle.apdu.specs.declared.apdus.Body.TheVariants as body
-use Rattle.apdu.specs.declared.apdus.Apdu.{Apdu}
 use Rattle.apdu.specs.declared.apdus.NoApdu.{NoApdu}
 use Rattle.apdu.specs.declared.apdus.NoApdu.TheVariants.{RejectDue, Garbled}
 use Rattle.apdu.specs.Decode.{received_as}
-use Rattle.apdu.specs.Tags as tag
-use Rattle.apdu.specs.Encode.{encode, is_right, body_right}
-use Rattle.apdu.specs.Operations.{Invoke, ReturnResult}
+use Rattle.apdu.specs.Encode.{encode, longest_apdu}
 
--- a list of numbers is a string of bytes
-abbrev pub Bytes : List ℕ → Type 0
-Bytes bs = (i : ℕ) → slice_index bs i < 256
+-- What the types say of an APDU, as far as reading it back needs it.
 
--- What the types of the code say of an APDU: the sizes of its arrays, and that its id has two bytes.
+-- what holds of every value
+abbrev pub Always : {A : Type 0} → A → Type 0
+Always x = Unit {0}
 
-abbrev pub IfAny : {A : Type 0} → (A → Type 0) → Option A → Type 0
-IfAny P None = Unit {0}
-IfAny P (Some x) = P x
+-- the challenge, if any, has its size
+abbrev pub IsWtatParamArg : WtatParamArg → Type 0
+IsWtatParamArg a = IfAny IsChallenge a.challenge
 
-abbrev pub OfSize : ℕ → List ℕ → Type 0
-OfSize n bs = length bs ≡ n
+-- the challenge has its size
+abbrev pub IsWtanParamArg : WtanParamArg → Type 0
+IsWtanParamArg a = IsChallenge a.challenge
 
-abbrev pub UnitSized : AuthUnit → Type 0
-UnitSized u = OfSize tag.challenge_size u.challenge × OfSize tag.response_size u.response
+-- its argument is one
+abbrev pub IsRequest : Request → Type 0
+IsRequest (request.AuthWtmUser unit) = IfAny UnitSized unit
+IsRequest (request.WtatParam provider arg) = IsWtatParamArg arg
+IsRequest (request.WtanParam provider arg) = IsWtanParamArg arg
 
-abbrev pub SessionSized : AuthSession → Type 0
-SessionSized s = OfSize tag.session_key_size s.key × OfSize tag.parameter_size s.parameter
+-- its user is a user number, and its request is one
+abbrev pub IsInvoke : Invoke → Type 0
+IsInvoke i = (is_user i.user ≡ true) × IsRequest i.request
 
-abbrev pub AuthSized : AuthWtmArg → Type 0
-AuthSized a = IfAny UnitSized a.unit
+-- its unit or session has its size
+abbrev pub IsWtatInfo : WtatInfo → Type 0
+IsWtatInfo (wtat.Unit u) = UnitSized u
+IsWtatInfo (wtat.Session s) = SessionSized s
 
-abbrev pub WtatSized : WtatParamArg → Type 0
-WtatSized a = IfAny (OfSize tag.challenge_size) a.challenge
+-- what it gives has its size
+abbrev pub IsWtatParamRes : WtatParamRes → Type 0
+IsWtatParamRes r = IsWtatInfo r.info
 
-abbrev pub WtanSized : WtanParamArg → Type 0
-WtanSized a = OfSize tag.challenge_size a.challenge
+-- its session or response has its size
+abbrev pub IsWtanParamRes : WtanParamRes → Type 0
+IsWtanParamRes (wtan.Session s) = SessionSized s
+IsWtanParamRes (wtan.Response r) = OfSize response_size r
 
-abbrev pub InfoSized : WtatInfo → Type 0
-InfoSized (wtat.Unit u) = UnitSized u
-InfoSized (wtat.Session s) = SessionSized s
+-- what it gives has its size
+abbrev pub IsResult : ReturnResult → Type 0
+IsResult (answer.AuthWtmUser verdict) = Unit {0}
+IsResult (answer.WtatParam provider res) = IsWtatParamRes res
+IsResult (answer.WtanParam provider res) = IsWtanParamRes res
 
-abbrev pub WtatResSized : WtatParamRes → Type 0
-WtatResSized r = InfoSized r.info
+-- what it holds, by its kind
+abbrev pub IsBody : Body → Type 0
+IsBody (body.Invoke i) = IsInvoke i
+IsBody (body.ReturnResult r) = IsResult r
+IsBody (body.ReturnError e) = Unit {0}
+IsBody (body.Reject p) = Unit {0}
 
-abbrev pub WtanResSized : WtanParamRes → Type 0
-WtanResSized (wtan.Session s) = SessionSized s
-WtanResSized (wtan.Response r) = OfSize tag.response_size r
-
-abbrev pub SizedWith : {A T N : Type 0} → (A → Type 0) → (T → Type 0) → (N → Type 0) → ByOperation A T N → Type 0
-SizedWith F G H (AuthWtmUser a) = F a
-SizedWith F G H (GetWtatParam t) = G t
-SizedWith F G H (WtatParamEnq t) = G t
-SizedWith F G H (GetWtanParam n) = H n
-SizedWith F G H (WtanParamEnq n) = H n
-
-abbrev pub InvokeSized : Invoke → Type 0
-InvokeSized i = SizedWith AuthSized WtatSized WtanSized i
-
--- a value of any size
-abbrev pub AnySize : {A : Type 0} → A → Type 0
-AnySize x = Unit {0}
-
-abbrev pub ResultSized : ReturnResult → Type 0
-ResultSized r = SizedWith AnySize WtatResSized WtanResSized r
-
-abbrev pub BodySized : Body → Type 0
-BodySized (body.Invoke i) = InvokeSized i
-BodySized (body.ReturnResult r) = ResultSized r
-BodySized (body.ReturnError e) = Unit {0}
-BodySized (body.Reject p) = Unit {0}
-
-abbrev pub Sized : Apdu → Type 0
-Sized a = (a.id < 65536) × BodySized a.body
+-- its id is at least 1, and its body is one
+abbrev pub IsApdu : Apdu → Type 0
+IsApdu a = (1 ≤ a.id) × IsBody a.body
 
 -- every APDU that is written reads back as the same APDU
 abbrev pub WrittenReadsBack : Type 0
-WrittenReadsBack = (a : Apdu) → BodySized a.body → is_right a ≡ true → received_as (encode a) ≡ Ok a
+WrittenReadsBack = (a : Apdu) → IsApdu a → received_as (encode a) ≡ Ok a
 
--- every APDU that is read is right for the writer, and is written back as the same bytes
+-- what is read is written back as the same bytes, and is an APDU with an id of two bytes
 abbrev pub ReadWritesBack : Type 0
-ReadWritesBack = (bs : List ℕ) (a : Apdu) → Bytes bs → received_as bs ≡ Ok a → (encode a ≡ bs) × ((is_right a ≡ true) × Sized a)
+ReadWritesBack =
+    (bs : List ℕ) (a : Apdu) → Bytes bs → received_as bs ≡ Ok a
+    → (encode a ≡ bs) × (IsApdu a × (a.id < 65536))
 
--- what is read, or is due a reject, has an id of at least 1, and what is read is right for the writer
+-- what is read is an APDU, and what is due a reject has an id of at least 1
 abbrev pub Lawful : Result Apdu NoApdu → Type 0
-Lawful (Ok a) = (1 ≤ a.id) × (body_right a.body ≡ true)
+Lawful (Ok a) = IsApdu a
 Lawful (Err (RejectDue id problem)) = 1 ≤ id
 Lawful (Err Garbled) = Unit {0}
+
+-- the fields of some bytes, one after another to their end
+abbrev pub AreFields : List ℕ → List Cut → Type 0
+AreFields bs [] = bs ≡ []
+AreFields bs (f ∷ fs) = (next_field bs ≡ Some f) × AreFields f.rest fs
+
+-- every string that is read as an APDU is whole fields and nothing more, and their tags rise strictly
+abbrev pub TagsRise : Type 0
+TagsRise =
+    (bs : List ℕ) (a : Apdu) → Bytes bs → received_as bs ≡ Ok a
+    → (fs : List Cut) × (AreFields bs fs × IsStrictlyIncreasing (map (λ (f : Cut). f.tag) fs))
+
+-- every APDU is within the longest, and one is as long
+abbrev pub WithinLongest : Type 0
+WithinLongest =
+    ((a : Apdu) → IsApdu a → length (encode a) ≤ longest_apdu)
+    × ((a : Apdu) × (IsApdu a × (length (encode a) ≡ longest_apdu)))

@@ -1,9 +1,6 @@
-pub mod Tags
-pub mod Fronts
-pub mod Rows
-pub mod Operations
-pub mod Values
+pub mod Shapes
 pub mod Grammar
+pub mod Operations
 pub mod Decode
 pub mod Encode
 pub mod Laws

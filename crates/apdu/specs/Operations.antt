@@ -1,58 +1,51 @@
--- An operation with what goes with it.
-use Rattle.std.specs.Prelude.{Bool, List, ℕ, Option}
+-- What goes with each operation.
+use Rattle.std.specs.Prelude.{ℕ, List, Option}
 use Rattle.std.specs.Option.{option_map}
 use Rattle.wire.specs.declared.codes.Operation.{Operation}
 use Rattle.wire.specs.declared.codes.Operation.TheVariants as operation
-use Rattle.wire.specs.declared.codes.Verdict.{Verdict}
-use Rattle.apdu.specs.declared.apdus.AuthWtmArg.{AuthWtmArg}
-use Rattle.apdu.specs.declared.apdus.WtatParamArg.{WtatParamArg}
-use Rattle.apdu.specs.declared.apdus.WtanParamArg.{WtanParamArg}
-use Rattle.apdu.specs.declared.apdus.WtatParamRes.{WtatParamRes}
-use Rattle.apdu.specs.declared.apdus.WtanParamRes.{WtanParamRes}
-use Rattle.apdu.specs.declared.apdus.ByOperation.{ByOperation}
-use Rattle.apdu.specs.declared.apdus.ByOperation.TheVariants.{AuthWtmUser, GetWtatParam, WtatParamEnq, GetWtanParam, WtanParamEnq}
-use Rattle.apdu.specs.Rows.{Shape, shaped, shape_bytes}
+use Rattle.apdu.specs.declared.apdus.Request.{Request}
+use Rattle.apdu.specs.declared.apdus.Request.TheVariants as request
+use Rattle.apdu.specs.declared.apdus.ReturnResult.{ReturnResult}
+use Rattle.apdu.specs.declared.apdus.ReturnResult.TheVariants as answer
+use Rattle.apdu.specs.Grammar.{auth_wtm_arg, wtat_param_arg, wtan_param_arg, auth_wtm_res, wtat_param_res, wtan_param_res}
+use Rattle.apdu.specs.Shapes.{shaped, shape_bytes}
 
-abbrev pub Invoke : Type 0
-Invoke = ByOperation AuthWtmArg WtatParamArg WtanParamArg
+-- the operation that asks it
+abbrev pub request_operation : Request → Operation
+request_operation (request.AuthWtmUser unit) = operation.AuthWtmUser
+request_operation (request.WtatParam provider arg) = operation.WtatParam provider
+request_operation (request.WtanParam provider arg) = operation.WtanParam provider
 
-abbrev pub ReturnResult : Type 0
-ReturnResult = ByOperation Verdict WtatParamRes WtanParamRes
+-- what follows the user of an invoke with this operation
+abbrev pub request_of : Operation → List ℕ → Option Request
+request_of operation.AuthWtmUser bs = option_map request.AuthWtmUser (shaped auth_wtm_arg bs)
+request_of (operation.WtatParam provider) bs =
+    option_map (request.WtatParam provider) (shaped wtat_param_arg bs)
+request_of (operation.WtanParam provider) bs =
+    option_map (request.WtanParam provider) (shaped wtan_param_arg bs)
 
--- the shapes of what goes with the operations
-pub record Shapes (A T N : Type 0) : Type 0 where
-  pub auth_wtm : Shape A
-  pub wtat_param : Shape T
-  pub wtan_param : Shape N
+-- what follows the user, as it is written
+abbrev pub request_bytes : Request → List ℕ
+request_bytes (request.AuthWtmUser unit) = shape_bytes auth_wtm_arg unit
+request_bytes (request.WtatParam provider arg) = shape_bytes wtat_param_arg arg
+request_bytes (request.WtanParam provider arg) = shape_bytes wtan_param_arg arg
 
-module _ {A T N : Type 0} where
-  abbrev pub operation_with : ByOperation A T N → Operation
-  operation_with (AuthWtmUser a) = operation.AuthWtmUser
-  operation_with (GetWtatParam t) = operation.GetWtatParam
-  operation_with (WtatParamEnq t) = operation.WtatParamEnq
-  operation_with (GetWtanParam n) = operation.GetWtanParam
-  operation_with (WtanParamEnq n) = operation.WtanParamEnq
+-- the operation that gave it
+abbrev pub result_operation : ReturnResult → Operation
+result_operation (answer.AuthWtmUser verdict) = operation.AuthWtmUser
+result_operation (answer.WtatParam provider res) = operation.WtatParam provider
+result_operation (answer.WtanParam provider res) = operation.WtanParam provider
 
-  -- what some bytes say behind the operation
-  abbrev pub said_with : Shapes A T N → Operation → List ℕ → Option (ByOperation A T N)
-  said_with s operation.AuthWtmUser bs = option_map AuthWtmUser (shaped s.auth_wtm bs)
-  said_with s operation.GetWtatParam bs = option_map GetWtatParam (shaped s.wtat_param bs)
-  said_with s operation.WtatParamEnq bs = option_map WtatParamEnq (shaped s.wtat_param bs)
-  said_with s operation.GetWtanParam bs = option_map GetWtanParam (shaped s.wtan_param bs)
-  said_with s operation.WtanParamEnq bs = option_map WtanParamEnq (shaped s.wtan_param bs)
+-- what follows the operation of a result
+abbrev pub result_of : Operation → List ℕ → Option ReturnResult
+result_of operation.AuthWtmUser bs = option_map answer.AuthWtmUser (shaped auth_wtm_res bs)
+result_of (operation.WtatParam provider) bs =
+    option_map (answer.WtatParam provider) (shaped wtat_param_res bs)
+result_of (operation.WtanParam provider) bs =
+    option_map (answer.WtanParam provider) (shaped wtan_param_res bs)
 
-  -- the row that tells it behind the operation
-  abbrev pub bytes_with : Shapes A T N → ByOperation A T N → List ℕ
-  bytes_with s (AuthWtmUser a) = shape_bytes s.auth_wtm a
-  bytes_with s (GetWtatParam t) = shape_bytes s.wtat_param t
-  bytes_with s (WtatParamEnq t) = shape_bytes s.wtat_param t
-  bytes_with s (GetWtanParam n) = shape_bytes s.wtan_param n
-  bytes_with s (WtanParamEnq n) = shape_bytes s.wtan_param n
-
-  -- whether it can be told
-  abbrev pub right_with : Shapes A T N → ByOperation A T N → Bool
-  right_with s (AuthWtmUser a) = s.auth_wtm.right a
-  right_with s (GetWtatParam t) = s.wtat_param.right t
-  right_with s (WtatParamEnq t) = s.wtat_param.right t
-  right_with s (GetWtanParam n) = s.wtan_param.right n
-  right_with s (WtanParamEnq n) = s.wtan_param.right n
+-- what follows the operation, as it is written
+abbrev pub result_bytes : ReturnResult → List ℕ
+result_bytes (answer.AuthWtmUser verdict) = shape_bytes auth_wtm_res verdict
+result_bytes (answer.WtatParam provider res) = shape_bytes wtat_param_res res
+result_bytes (answer.WtanParam provider res) = shape_bytes wtan_param_res res

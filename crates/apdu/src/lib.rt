@@ -1,18 +1,14 @@
-// The wire format: APDUs, and how they are read and written.
+// APDUs, and how they are read and written.
 #![tactic(auto)]
 
 mod apdus;
 mod decode;
 mod encode;
-mod row;
-mod values;
-mod writer;
+mod shaped;
 
 pub use apdus::{
-    Apdu, AuthSession, AuthUnit, AuthWtmArg, Body, ByOperation, Challenge, Invoke, NoApdu,
-    Parameter, Response, ReturnResult, SessionKey, WtanParamArg, WtanParamRes, WtatInfo,
+    Apdu, Body, Invoke, NoApdu, Request, ReturnResult, WtanParamArg, WtanParamRes, WtatInfo,
     WtatParamArg, WtatParamRes,
 };
 pub use decode::read;
-pub use encode::write;
-pub use users::UserNumber;
+pub use encode::{LEAST_BUFFER, write};

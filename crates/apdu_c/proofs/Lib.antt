@@ -1,3 +1,5 @@
 pub mod Forms
-pub mod Back
-pub mod Kept
+pub mod Says
+pub mod FlatReadsBack
+pub mod GivenIsFlat
+pub mod AbsentHasNoSay

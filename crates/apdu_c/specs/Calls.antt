@@ -1,11 +1,11 @@
 -- What the two calls from C answer and leave.
-use Rattle.std.specs.Prelude.{ℕ, cond, List, length, Some, None, Ok, Err, Option, Result, nat_le}
+use Rattle.std.specs.Prelude.{ℕ, List, length, Some, None, Ok, Err, Option, Result, nat_le, if◌then◌else◌}
 use Rattle.refusal.specs.declared.Refusal.{Refusal}
 use Rattle.refusal.specs.declared.Refusal.TheVariants.{ShortSheet, Garbled}
-use Rattle.refusal.specs.Numbers.{refusal_number}
+use Rattle.refusal.specs.Refusals.{refusal_number}
 use Rattle.apdu.specs.declared.apdus.Apdu.{Apdu}
 use Rattle.apdu.specs.declared.apdus.NoApdu.{NoApdu}
-use Rattle.apdu.specs.Encode.{write_answer, write_buffer}
+use Rattle.apdu.specs.Encode.{least_buffer, write_answer, write_buffer}
 use Rattle.apdu_c.specs.declared.fields.Fields.{Fields}
 use Rattle.apdu_c.specs.Flat.{flat}
 
@@ -21,7 +21,7 @@ read_fields (Err n) f = f
 
 -- the length of what is written, or why nothing is; None where the fields make no APDU
 abbrev pub write_result : Option Apdu → List ℕ → Result ℕ Refusal
-write_result None out = cond (nat_le 64 (length out)) (Err Garbled) (Err ShortSheet)
+write_result None out = if nat_le least_buffer (length out) then Err Garbled else Err ShortSheet
 write_result (Some a) out = write_answer a out
 
 -- the buffer after a write, where it was out before

@@ -1,17 +1,19 @@
 -- What C is handed of an APDU.
-use Rattle.std.specs.Prelude.{ℕ, List, replicate}
+use Rattle.std.specs.Prelude.{ℕ, ◌+◌, List, Some, replicate}
 use Rattle.std.specs.Option.{unwrap_or}
+use Rattle.wire.specs.Codes.{kind_number, operation_number}
+use Rattle.values.specs.declared.proof.AuthSession.{AuthSession}
+use Rattle.values.specs.declared.proof.AuthUnit.{AuthUnit}
+use Rattle.values.specs.Sizes.{challenge_size, response_size, session_key_size, parameter_size}
 use Rattle.apdu.specs.declared.apdus.Apdu.{Apdu}
-use Rattle.apdu.specs.declared.apdus.AuthSession.{AuthSession}
-use Rattle.apdu.specs.declared.apdus.AuthUnit.{AuthUnit}
 use Rattle.apdu.specs.declared.apdus.Body.{Body}
 use Rattle.apdu.specs.declared.apdus.Body.TheVariants as body
-use Rattle.wire.specs.Codes.{kind_number, operation_number}
+use Rattle.apdu.specs.declared.apdus.Invoke.{Invoke}
 use Rattle.apdu.specs.Encode.{kind_of_body}
-use Rattle.apdu.specs.Operations.{operation_with}
+use Rattle.apdu.specs.Operations.{request_operation, result_operation}
 use Rattle.apdu_c.specs.declared.fields.Fields.{Fields}
-use Rattle.apdu_c.specs.Forms.{given_unit, given_session, arguments, results, error, problem, parts_with}
-use Rattle.apdu_c.specs.Parts.{Parts, present_bits}
+use Rattle.apdu_c.specs.Forms.{given_unit, given_session, request_parts, result_parts, return_error, reject}
+use Rattle.apdu_c.specs.Parts.{Parts, bits_after_user, present_bits}
 
 -- the value of an array that is absent
 abbrev pub zeros : ℕ → List ℕ
@@ -19,23 +21,27 @@ zeros n = replicate n 0
 
 -- the value of a unit that is absent
 abbrev pub zero_unit : AuthUnit
-zero_unit = record { challenge = zeros 8; response = zeros 4 }
+zero_unit = record { challenge = zeros challenge_size; response = zeros response_size }
 
 -- the value of a session that is absent
 abbrev pub zero_session : AuthSession
-zero_session = record { key = zeros 16; parameter = zeros 8 }
+zero_session = record { key = zeros session_key_size; parameter = zeros parameter_size }
+
+-- the user, and the parts of what is asked
+abbrev pub invoke_parts : Invoke → Parts
+invoke_parts i = record (request_parts i.request) { user = Some i.user }
 
 -- the fields 04 to 0D of an APDU
 abbrev pub body_parts : Body → Parts
-body_parts (body.Invoke i) = parts_with arguments i
-body_parts (body.ReturnResult r) = parts_with results r
-body_parts (body.ReturnError e) = error.parts e
-body_parts (body.Reject p) = problem.parts p
+body_parts (body.Invoke i) = invoke_parts i
+body_parts (body.ReturnResult r) = result_parts r
+body_parts (body.ReturnError e) = return_error.parts e
+body_parts (body.Reject p) = reject.parts p
 
 -- the operation's number; 0 where there is none
 abbrev pub body_operation : Body → ℕ
-body_operation (body.Invoke i) = operation_number (operation_with i)
-body_operation (body.ReturnResult r) = operation_number (operation_with r)
+body_operation (body.Invoke i) = operation_number (request_operation i.request)
+body_operation (body.ReturnResult r) = operation_number (result_operation r)
 body_operation (body.ReturnError e) = 0
 body_operation (body.Reject p) = 0
 
@@ -52,19 +58,18 @@ filled id kind operation p =
       verdict = unwrap_or p.verdict 0;
       error = unwrap_or p.error 0;
       problem = unwrap_or p.problem 0;
-      challenge = unwrap_or p.challenge (zeros 8);
+      challenge = unwrap_or p.challenge (zeros challenge_size);
       unit_challenge = (unwrap_or p.unit zero_unit).challenge;
       unit_response = (unwrap_or p.unit zero_unit).response;
       session_key = (unwrap_or p.session zero_session).key;
       session_parameter = (unwrap_or p.session zero_session).parameter;
-      response = unwrap_or p.response (zeros 4);
+      response = unwrap_or p.response (zeros response_size);
     }
 
--- f with these values, and its own for those that are absent
+-- f with these values of fields 05 to 0D, and its own for those that are absent
 abbrev pub put_in : Fields → Parts → Fields
 put_in f p =
     record f {
-      user = unwrap_or p.user f.user;
       algorithm = unwrap_or p.algorithm f.algorithm;
       verdict = unwrap_or p.verdict f.verdict;
       error = unwrap_or p.error f.error;
@@ -77,9 +82,9 @@ put_in f p =
       response = unwrap_or p.response f.response;
     }
 
--- f with these parts
+-- f with these parts in fields 05 to 0D
 abbrev pub with_parts : Fields → Parts → Fields
-with_parts f p = record (put_in f p) { present = present_bits p }
+with_parts f p = record (put_in f p) { present = f.present + bits_after_user p }
 
 -- what C is handed of an APDU
 abbrev pub flat : Apdu → Fields

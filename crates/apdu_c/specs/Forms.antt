@@ -1,12 +1,19 @@
--- What stands in the fields 04 to 0D, as data: the parts of each value, and the value that fields from C give.
-use Rattle.std.specs.Prelude.{ℕ, ◌^◌, Bool, cond, not, Some, Option, ◌==◌, bit_and}
-use Rattle.std.specs.Option.{option_map}
+-- What stands in the fields 05 to 0D, as data: the parts of each value, and the value that fields from C give.
+use Rattle.std.specs.Prelude.{ℕ, ◌^◌, Bool, not, Some, Option, ◌==◌, bit_and, if◌then◌else◌}
 use Rattle.std.specs.Bool.{then_some}
-use Rattle.apdu.specs.declared.apdus.AuthSession.{AuthSession}
-use Rattle.apdu.specs.declared.apdus.AuthUnit.{AuthUnit}
-use Rattle.apdu.specs.declared.apdus.AuthWtmArg.{AuthWtmArg}
-use Rattle.apdu.specs.declared.apdus.ByOperation.{ByOperation}
-use Rattle.apdu.specs.declared.apdus.ByOperation.TheVariants.{AuthWtmUser, GetWtatParam, WtatParamEnq, GetWtanParam, WtanParamEnq}
+use Rattle.std.specs.Option.{option_map}
+use Rattle.wire.specs.Codes.{verdict_of, error_of}
+use Rattle.wire.specs.declared.codes.ErrorCode.{ErrorCode}
+use Rattle.wire.specs.declared.codes.Operation.{Operation}
+use Rattle.wire.specs.declared.codes.Operation.TheVariants as operation
+use Rattle.wire.specs.declared.codes.Verdict.{Verdict}
+use Rattle.wire.specs.Tags as tag
+use Rattle.values.specs.declared.proof.AuthSession.{AuthSession}
+use Rattle.values.specs.declared.proof.AuthUnit.{AuthUnit}
+use Rattle.apdu.specs.declared.apdus.Request.{Request}
+use Rattle.apdu.specs.declared.apdus.Request.TheVariants as request
+use Rattle.apdu.specs.declared.apdus.ReturnResult.{ReturnResult}
+use Rattle.apdu.specs.declared.apdus.ReturnResult.TheVariants as answer
 use Rattle.apdu.specs.declared.apdus.WtanParamArg.{WtanParamArg}
 use Rattle.apdu.specs.declared.apdus.WtanParamRes.{WtanParamRes}
 use Rattle.apdu.specs.declared.apdus.WtanParamRes.TheVariants as wtan
@@ -14,14 +21,8 @@ use Rattle.apdu.specs.declared.apdus.WtatInfo.{WtatInfo}
 use Rattle.apdu.specs.declared.apdus.WtatInfo.TheVariants as wtat
 use Rattle.apdu.specs.declared.apdus.WtatParamArg.{WtatParamArg}
 use Rattle.apdu.specs.declared.apdus.WtatParamRes.{WtatParamRes}
-use Rattle.wire.specs.declared.codes.ErrorCode.{ErrorCode}
-use Rattle.wire.specs.declared.codes.Operation.{Operation}
-use Rattle.wire.specs.declared.codes.Operation.TheVariants as operation
-use Rattle.wire.specs.declared.codes.Verdict.{Verdict}
-use Rattle.users.specs.declared.UserNumber.{UserNumber}
-use Rattle.wire.specs.Codes.{verdict_of, error_of}
 use Rattle.apdu_c.specs.declared.fields.Fields.{Fields}
-use Rattle.apdu_c.specs.Parts.{Parts, auth_wtm_arg_parts, wtat_arg_parts, wtan_arg_parts, verdict_parts, wtat_res_parts, wtan_res_parts, error_parts, problem_parts}
+use Rattle.apdu_c.specs.Parts.{Parts, auth_wtm_arg_parts, wtat_param_arg_parts, wtan_param_arg_parts, auth_wtm_res_parts, wtat_param_res_parts, wtan_param_res_parts, return_error_parts, reject_parts}
 
 -- bit t of n is set
 abbrev pub has_bit : ℕ → ℕ → Bool
@@ -33,9 +34,6 @@ has t f = has_bit t f.present
 
 -- values as they are given, there or not
 
-abbrev pub given_user : Fields → UserNumber
-given_user f = record { key = f.user }
-
 abbrev pub given_unit : Fields → AuthUnit
 given_unit f = record { challenge = f.unit_challenge; response = f.unit_response }
 
@@ -44,83 +42,93 @@ given_session f = record { key = f.session_key; parameter = f.session_parameter 
 
 -- arguments and results: what may be absent goes by its bit
 
-abbrev pub given_auth_wtm_arg : Fields → AuthWtmArg
-given_auth_wtm_arg f = record { user = given_user f; unit = then_some (has 0x08 f) (given_unit f) }
+abbrev pub given_auth_wtm_arg : Fields → Option AuthUnit
+given_auth_wtm_arg f = then_some (has tag.unit f) (given_unit f)
 
-abbrev pub given_wtat_arg : Fields → WtatParamArg
-given_wtat_arg f = record { user = given_user f; computes = has 0x05 f; challenge = then_some (has 0x06 f) f.challenge }
+abbrev pub given_wtat_param_arg : Fields → WtatParamArg
+given_wtat_param_arg f =
+    record {
+      computes = has tag.can_compute f;
+      challenge = then_some (has tag.challenge f) f.challenge;
+    }
 
-abbrev pub given_wtan_arg : Fields → WtanParamArg
-given_wtan_arg f = record { user = given_user f; computes = has 0x05 f; challenge = f.challenge; algorithm = f.algorithm }
+abbrev pub given_wtan_param_arg : Fields → WtanParamArg
+given_wtan_param_arg f =
+    record {
+      computes = has tag.can_compute f;
+      challenge = f.challenge;
+      algorithm = f.algorithm;
+    }
 
 -- a unit, if its bit is set, and else a session
 abbrev pub given_wtat_info : Fields → WtatInfo
-given_wtat_info f = cond (has 0x08 f) (wtat.Unit (given_unit f)) (wtat.Session (given_session f))
+given_wtat_info f =
+    if has tag.unit f then wtat.Unit (given_unit f) else wtat.Session (given_session f)
 
-abbrev pub given_wtat_res : Fields → WtatParamRes
-given_wtat_res f = record { algorithm = f.algorithm; info = given_wtat_info f }
+abbrev pub given_wtat_param_res : Fields → WtatParamRes
+given_wtat_param_res f = record { algorithm = f.algorithm; info = given_wtat_info f }
 
 -- a session, if its bit is set, and else a response
-abbrev pub given_wtan_res : Fields → WtanParamRes
-given_wtan_res f = cond (has 0x09 f) (wtan.Session (given_session f)) (wtan.Response f.response)
+abbrev pub given_wtan_param_res : Fields → WtanParamRes
+given_wtan_param_res f =
+    if has tag.session f then wtan.Session (given_session f) else wtan.Response f.response
 
 -- the parts of a value, and the value that fields give, if they give one
 pub record Form (B : Type 0) : Type 0 where
   pub parts : B → Parts
   pub given : Fields → Option B
 
-abbrev pub auth_wtm_arg : Form AuthWtmArg
+abbrev pub auth_wtm_arg : Form (Option AuthUnit)
 auth_wtm_arg = record { parts = auth_wtm_arg_parts; given = λ f. Some (given_auth_wtm_arg f) }
 
-abbrev pub wtat_arg : Form WtatParamArg
-wtat_arg = record { parts = wtat_arg_parts; given = λ f. Some (given_wtat_arg f) }
+abbrev pub wtat_param_arg : Form WtatParamArg
+wtat_param_arg = record { parts = wtat_param_arg_parts; given = λ f. Some (given_wtat_param_arg f) }
 
-abbrev pub wtan_arg : Form WtanParamArg
-wtan_arg = record { parts = wtan_arg_parts; given = λ f. Some (given_wtan_arg f) }
+abbrev pub wtan_param_arg : Form WtanParamArg
+wtan_param_arg = record { parts = wtan_param_arg_parts; given = λ f. Some (given_wtan_param_arg f) }
 
 -- None where the verdict is no verdict's number
-abbrev pub verdict : Form Verdict
-verdict = record { parts = verdict_parts; given = λ f. verdict_of f.verdict }
+abbrev pub auth_wtm_res : Form Verdict
+auth_wtm_res = record { parts = auth_wtm_res_parts; given = λ f. verdict_of f.verdict }
 
-abbrev pub wtat_res : Form WtatParamRes
-wtat_res = record { parts = wtat_res_parts; given = λ f. Some (given_wtat_res f) }
+abbrev pub wtat_param_res : Form WtatParamRes
+wtat_param_res = record { parts = wtat_param_res_parts; given = λ f. Some (given_wtat_param_res f) }
 
-abbrev pub wtan_res : Form WtanParamRes
-wtan_res = record { parts = wtan_res_parts; given = λ f. Some (given_wtan_res f) }
+abbrev pub wtan_param_res : Form WtanParamRes
+wtan_param_res = record { parts = wtan_param_res_parts; given = λ f. Some (given_wtan_param_res f) }
 
 -- None where the error is no error's number
-abbrev pub error : Form ErrorCode
-error = record { parts = error_parts; given = λ f. error_of f.error }
+abbrev pub return_error : Form ErrorCode
+return_error = record { parts = return_error_parts; given = λ f. error_of f.error }
 
 -- the problem of a reject, which may be any
-abbrev pub problem : Form ℕ
-problem = record { parts = problem_parts; given = λ f. Some f.problem }
+abbrev pub reject : Form ℕ
+reject = record { parts = reject_parts; given = λ f. Some f.problem }
 
--- the forms of what goes with the operations
-pub record Forms (A T N : Type 0) : Type 0 where
-  pub auth_wtm : Form A
-  pub wtat_param : Form T
-  pub wtan_param : Form N
+-- the parts of what is asked
+abbrev pub request_parts : Request → Parts
+request_parts (request.AuthWtmUser unit) = auth_wtm_arg.parts unit
+request_parts (request.WtatParam provider arg) = wtat_param_arg.parts arg
+request_parts (request.WtanParam provider arg) = wtan_param_arg.parts arg
 
-abbrev pub arguments : Forms AuthWtmArg WtatParamArg WtanParamArg
-arguments = record { auth_wtm = auth_wtm_arg; wtat_param = wtat_arg; wtan_param = wtan_arg }
+-- what is asked by this operation
+abbrev pub given_request : Operation → Fields → Option Request
+given_request operation.AuthWtmUser f = option_map request.AuthWtmUser (auth_wtm_arg.given f)
+given_request (operation.WtatParam provider) f =
+    option_map (request.WtatParam provider) (wtat_param_arg.given f)
+given_request (operation.WtanParam provider) f =
+    option_map (request.WtanParam provider) (wtan_param_arg.given f)
 
-abbrev pub results : Forms Verdict WtatParamRes WtanParamRes
-results = record { auth_wtm = verdict; wtat_param = wtat_res; wtan_param = wtan_res }
+-- the parts of what an operation gave
+abbrev pub result_parts : ReturnResult → Parts
+result_parts (answer.AuthWtmUser verdict) = auth_wtm_res.parts verdict
+result_parts (answer.WtatParam provider res) = wtat_param_res.parts res
+result_parts (answer.WtanParam provider res) = wtan_param_res.parts res
 
-module _ {A T N : Type 0} where
-  -- the parts of what goes with the operation
-  abbrev pub parts_with : Forms A T N → ByOperation A T N → Parts
-  parts_with s (AuthWtmUser a) = s.auth_wtm.parts a
-  parts_with s (GetWtatParam t) = s.wtat_param.parts t
-  parts_with s (WtatParamEnq t) = s.wtat_param.parts t
-  parts_with s (GetWtanParam n) = s.wtan_param.parts n
-  parts_with s (WtanParamEnq n) = s.wtan_param.parts n
-
-  -- the operation with what fields give for it
-  abbrev pub given_with : Forms A T N → Operation → Fields → Option (ByOperation A T N)
-  given_with s operation.AuthWtmUser f = option_map AuthWtmUser (s.auth_wtm.given f)
-  given_with s operation.GetWtatParam f = option_map GetWtatParam (s.wtat_param.given f)
-  given_with s operation.WtatParamEnq f = option_map WtatParamEnq (s.wtat_param.given f)
-  given_with s operation.GetWtanParam f = option_map GetWtanParam (s.wtan_param.given f)
-  given_with s operation.WtanParamEnq f = option_map WtanParamEnq (s.wtan_param.given f)
+-- what this operation gave
+abbrev pub given_result : Operation → Fields → Option ReturnResult
+given_result operation.AuthWtmUser f = option_map answer.AuthWtmUser (auth_wtm_res.given f)
+given_result (operation.WtatParam provider) f =
+    option_map (answer.WtatParam provider) (wtat_param_res.given f)
+given_result (operation.WtanParam provider) f =
+    option_map (answer.WtanParam provider) (wtan_param_res.given f)

@@ -1,23 +1,38 @@
-// The fields of an APDU, for a C program: numbers for kinds, bits for what is there, and zero for what is absent, since
-// C is to read it.
+/// The fields of an APDU, for a C program: numbers for kinds, bits for what is there, and zero for what is absent. Any may
+/// hold any value; `apdu_write` says which of them make an APDU.
 #[repr(C)]
 #[derive(Clone, Copy)]
 pub struct Fields {
-    pub user: u64, // 04: count of digits × 10^15 + value
-    pub present: u16, // which of the fields 04 to 0D there are: bit t for tag t
-    pub id: u16, // 02
-    pub kind: u8, // 01: 1 invoke, 2 result, 3 error, 4 reject
-    pub operation: u8, // 03: 1 to 5; 0 in an error or a reject, which have none
-    pub algorithm: u8, // 07
-    pub verdict: u8, // 0B
-    pub error: u8, // 0C
-    pub problem: u8, // 0D
-    pub challenge: [u8; 8], // 06
-    pub unit_challenge: [u8; 8], // 08
-    pub unit_response: [u8; 4], // 08
-    pub session_key: [u8; 16], // 09
-    pub session_parameter: [u8; 8], // 09
-    pub response: [u8; 4], // 0A
+    /// 04: count of digits × 10^15 + value.
+    pub user: u64,
+    /// Which of the fields 04 to 0D there are: bit t for tag t.
+    pub present: u16,
+    /// 02: the invoke id.
+    pub id: u16,
+    /// 01: 1 invoke, 2 result, 3 error, 4 reject.
+    pub kind: u8,
+    /// 03: 1 to 5; 0 in an error or a reject, which have none.
+    pub operation: u8,
+    /// 07.
+    pub algorithm: u8,
+    /// 0B: 0 correct, 1 incorrect.
+    pub verdict: u8,
+    /// 0C: 1 to 5.
+    pub error: u8,
+    /// 0D: any.
+    pub problem: u8,
+    /// 06.
+    pub challenge: [u8; 8],
+    /// 08, its first part.
+    pub unit_challenge: [u8; 8],
+    /// 08, its second part.
+    pub unit_response: [u8; 4],
+    /// 09, its first part.
+    pub session_key: [u8; 16],
+    /// 09, its second part.
+    pub session_parameter: [u8; 8],
+    /// 0A.
+    pub response: [u8; 4],
 }
 
 // All zero: no field is there.

@@ -1,39 +1,50 @@
 // What C is handed of an APDU.
-ghost use Rattle.std.specs.Prelude.{◌≡◌};
+ghost use Rattle.std.specs.Prelude.{◌≡◌, ◌≤◌};
 ghost use Rattle.wire.specs.Codes.{operation_number};
-ghost use Rattle.apdu.specs.Operations.{operation_with};
-ghost use Rattle.apdu_c.specs.Flat.{flat, with_parts};
-ghost use Rattle.apdu_c.specs.Forms.{parts_with};
+ghost use Rattle.apdu.specs.Operations.{request_operation, result_operation};
+ghost use Rattle.apdu_c.specs.Flat.{flat, invoke_parts, with_parts};
+ghost use Rattle.apdu_c.specs.Forms.{result_parts, request_parts};
 
 use crate::fields::{BLANK, Fields};
-use crate::part::Part;
-use apdu::{Apdu, Body, ByOperation};
-use wire::{Kind, Operation};
+use crate::part::{Part, USER};
+use apdu::{Apdu, Body, Invoke, Request, ReturnResult};
+use wire::Kind;
 
 impl Fields {
+    // Sets the values of a part, and its bits beside the user's.
     fn put_part<P: Part>(&mut self, part: &P)
+        requires { self.old.present ≤ 16 }
         ensures { self.new ≡ with_parts self.old (P.form.parts part.now) }
     {
-        self.present = part.present();
+        self.present += part.present();
         part.put(self);
     }
 
-    fn put_operation<P: Part>(&mut self, operation: Operation, part: &P)
-        ensures { self.new ≡ with_parts (record self.old { operation = operation_number operation }) (P.form.parts part.now) }
+    fn put_request(&mut self, request: &Request)
+        requires { self.old.present ≤ 16 }
+        ensures { self.new ≡ with_parts
+            (record self.old { operation = operation_number (request_operation request.now) })
+            (request_parts request.now) }
     {
-        self.operation = operation.into();
-        self.put_part(part);
+        self.operation = request.operation().into();
+        match request {
+            Request::AuthWtmUser(unit) => self.put_part(unit),
+            Request::WtatParam(_, arg) => self.put_part(arg),
+            Request::WtanParam(_, arg) => self.put_part(arg),
+        }
     }
 
-    fn put_by_operation<A: Part, T: Part, N: Part>(&mut self, with: &ByOperation<A, T, N>)
-        ensures { self.new ≡ with_parts (record self.old { operation = operation_number (operation_with with.now) }) (parts_with (record { auth_wtm = A.form; wtat_param = T.form; wtan_param = N.form }) with.now) }
+    fn put_result(&mut self, answer: &ReturnResult)
+        requires { self.old.present ≤ 16 }
+        ensures { self.new ≡ with_parts
+            (record self.old { operation = operation_number (result_operation answer.now) })
+            (result_parts answer.now) }
     {
-        match with {
-            ByOperation::AuthWtmUser(part) => self.put_operation(Operation::AuthWtmUser, part),
-            ByOperation::GetWtatParam(part) => self.put_operation(Operation::GetWtatParam, part),
-            ByOperation::WtatParamEnq(part) => self.put_operation(Operation::WtatParamEnq, part),
-            ByOperation::GetWtanParam(part) => self.put_operation(Operation::GetWtanParam, part),
-            ByOperation::WtanParamEnq(part) => self.put_operation(Operation::WtanParamEnq, part),
+        self.operation = answer.operation().into();
+        match answer {
+            ReturnResult::AuthWtmUser(verdict) => self.put_part(verdict),
+            ReturnResult::WtatParam(_, res) => self.put_part(res),
+            ReturnResult::WtanParam(_, res) => self.put_part(res),
         }
     }
 }
@@ -44,17 +55,19 @@ impl From<&Apdu> for Fields {
 
     fn from(apdu: &Apdu) -> Fields {
         let mut fields = Fields {
-            id: apdu.id,
+            id: apdu.id.number(),
             ..BLANK
         };
         match &apdu.body {
             Body::Invoke(invoke) => {
                 fields.kind = Kind::Invoke.into();
-                fields.put_by_operation(invoke);
+                fields.user = invoke.user.key();
+                fields.present = USER;
+                fields.put_request(&invoke.request);
             }
             Body::ReturnResult(result) => {
                 fields.kind = Kind::ReturnResult.into();
-                fields.put_by_operation(result);
+                fields.put_result(result);
             }
             Body::ReturnError(error) => {
                 fields.kind = Kind::ReturnError.into();

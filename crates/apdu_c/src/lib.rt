@@ -5,14 +5,14 @@ ghost use Rattle.std.specs.Prelude.{◌≡◌};
 ghost use Rattle.apdu.specs.Decode.{received_as};
 ghost use Rattle.apdu_c.specs.Calls.{read_status, read_fields, write_result, write_status, write_out, write_used};
 ghost use Rattle.apdu_c.specs.Given.{apdu_of};
-ghost use Rattle.apdu_c.specs.Laws.{FlatReadsBack, GivenIsFlat};
+ghost use Rattle.apdu_c.specs.Laws.{AbsentHasNoSay, FlatReadsBack, GivenIsFlat};
 
 mod fields;
 mod flat;
 mod given;
 mod part;
 
-use apdu::{Apdu, read, write};
+use apdu::{Apdu, LEAST_BUFFER, read, write};
 pub use fields::Fields;
 use refusal::Refusal;
 
@@ -39,10 +39,13 @@ fn write_fields(fields: &Fields, out: &mut [u8]) -> Result<usize, Refusal>
     ensures buffer { out.new ≡ write_out (apdu_of fields.now) out.old }
 {
     // The size is looked at first, also where the fields make no APDU.
-    if out.len() < 64 {
+    if out.len() < LEAST_BUFFER {
         return Err(Refusal::ShortSheet);
     }
-    write(&Apdu::try_from(fields)?, out)
+    match Apdu::try_from(fields) {
+        Ok(apdu) => write(&apdu, out),
+        Err(refusal) => Err(refusal),
+    }
 }
 
 /// Writes the APDU that the fields make to the front of the buffer, whose rest stays as it was, sets
@@ -54,6 +57,7 @@ pub extern "C" fn apdu_write(fields: &Fields, out: &mut [u8], used: &mut usize) 
     ensures buffer { out.new ≡ write_out (apdu_of fields.now) out.old }
     ensures count { used.new ≡ write_used (apdu_of fields.now) out.old used.old }
     ensures kept { GivenIsFlat }
+    ensures absent { AbsentHasNoSay }
 {
     match write_fields(fields, out) {
         Ok(length) => {

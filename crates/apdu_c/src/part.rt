@@ -1,17 +1,17 @@
-// What stands in the fields 04 to 0D: the argument or the result of an operation, an error or a problem.
-ghost use Rattle.std.specs.Prelude.{◌≡◌, not, ◌==◌, bit_and};
+// What stands in the fields 05 to 0D: an argument or a result of an operation, an error or a problem.
+ghost use Rattle.std.specs.Prelude.{◌≡◌, ◌<◌, not, ◌==◌, bit_and};
 ghost use Rattle.apdu_c.specs.Flat.{put_in};
-ghost use Rattle.apdu_c.specs.Forms.{Form, given_unit, given_session, auth_wtm_arg, wtat_arg, wtan_arg, verdict, wtat_res, wtan_res, error, problem};
-ghost use Rattle.apdu_c.specs.Parts.{present_bits};
+ghost use Rattle.apdu_c.specs.Forms.{Form, given_unit, given_session, auth_wtm_arg, wtat_param_arg, wtan_param_arg, auth_wtm_res, wtat_param_res, wtan_param_res, return_error, reject};
+ghost use Rattle.apdu_c.specs.Parts.{bits_after_user};
 
 use crate::fields::Fields;
-use apdu::{
-    AuthSession, AuthUnit, AuthWtmArg, UserNumber, WtanParamArg, WtanParamRes, WtatInfo,
-    WtatParamArg, WtatParamRes,
-};
+use apdu::{WtanParamArg, WtanParamRes, WtatInfo, WtatParamArg, WtatParamRes};
+use values::{AuthSession, AuthUnit, Challenge};
 use wire::{ErrorCode, Verdict, tags};
 
-const USER: u16 = 1 << tags::USER;
+// The bit of each field in `present`.
+
+pub(crate) const USER: u16 = 1 << tags::USER;
 
 const COMPUTES: u16 = 1 << tags::CAN_COMPUTE;
 
@@ -34,9 +34,10 @@ const PROBLEM: u16 = 1 << tags::PROBLEM;
 pub(crate) trait Part: Sized + Drop {
     ghost form: { Form Self };
 
-    // Which of the fields it has: bit t for tag t.
+    // The bits of the fields that it has.
     fn present(&self) -> u16
-        ensures { result ≡ present_bits (form.parts self.now) };
+        ensures value { result ≡ bits_after_user (form.parts self.now) }
+        ensures bound { result < 16384 };
 
     // Sets its values; one that is absent stays as it was.
     fn put(&self, fields: &mut Fields)
@@ -59,7 +60,7 @@ impl Fields {
         ensures { result ≡ given_unit self.now }
     {
         AuthUnit {
-            challenge: self.unit_challenge,
+            challenge: Challenge::new(self.unit_challenge),
             response: self.unit_response,
         }
     }
@@ -74,102 +75,103 @@ impl Fields {
     }
 
     fn set_unit(&mut self, unit: &AuthUnit)
-        ensures { self.new ≡ record self.old { unit_challenge = unit.now.challenge; unit_response = unit.now.response } }
+        ensures { self.new ≡ record self.old {
+          unit_challenge = unit.now.challenge;
+          unit_response = unit.now.response;
+        } }
     {
-        self.unit_challenge = unit.challenge;
+        self.unit_challenge.copy_from_slice(unit.challenge.bytes());
         self.unit_response = unit.response;
     }
 
     fn set_session(&mut self, session: &AuthSession)
-        ensures { self.new ≡ record self.old { session_key = session.now.key; session_parameter = session.now.parameter } }
+        ensures { self.new ≡ record self.old {
+          session_key = session.now.key;
+          session_parameter = session.now.parameter;
+        } }
     {
         self.session_key = session.key;
         self.session_parameter = session.parameter;
     }
 }
 
-impl Part for AuthWtmArg {
+// The unit that a user is to be checked by, if the asker has one.
+impl Part for Option<AuthUnit> {
     ghost form = { auth_wtm_arg };
 
     fn present(&self) -> u16 {
-        match self.unit {
-            None => USER,
-            Some(_) => USER + UNIT,
+        match self {
+            None => 0,
+            Some(_) => UNIT,
         }
     }
 
     fn put(&self, fields: &mut Fields) {
-        fields.user = self.user.key;
-        if let Some(unit) = &self.unit {
+        if let Some(unit) = self {
             fields.set_unit(unit);
         }
     }
 
-    fn given(fields: &Fields) -> Option<AuthWtmArg> {
-        Some(AuthWtmArg {
-            user: UserNumber { key: fields.user },
-            unit: fields.has(UNIT).then_some(fields.unit()),
-        })
+    fn given(fields: &Fields) -> Option<Option<AuthUnit>> {
+        Some(fields.has(UNIT).then_some(fields.unit()))
     }
 }
 
 impl Part for WtatParamArg {
-    ghost form = { wtat_arg };
+    ghost form = { wtat_param_arg };
 
     fn present(&self) -> u16 {
         match (self.computes, self.challenge.is_some()) {
-            (false, false) => USER,
-            (true, false) => USER + COMPUTES,
-            (false, true) => USER + CHALLENGE,
-            (true, true) => USER + COMPUTES + CHALLENGE,
+            (false, false) => 0,
+            (true, false) => COMPUTES,
+            (false, true) => CHALLENGE,
+            (true, true) => COMPUTES + CHALLENGE,
         }
     }
 
     fn put(&self, fields: &mut Fields) {
-        fields.user = self.user.key;
-        if let Some(challenge) = self.challenge {
-            fields.challenge = challenge;
+        if let Some(challenge) = &self.challenge {
+            fields.challenge.copy_from_slice(challenge.bytes());
         }
     }
 
     fn given(fields: &Fields) -> Option<WtatParamArg> {
         Some(WtatParamArg {
-            user: UserNumber { key: fields.user },
             computes: fields.has(COMPUTES),
-            challenge: fields.has(CHALLENGE).then_some(fields.challenge),
+            challenge: fields
+                .has(CHALLENGE)
+                .then_some(Challenge::new(fields.challenge)),
         })
     }
 }
 
 impl Part for WtanParamArg {
-    ghost form = { wtan_arg };
+    ghost form = { wtan_param_arg };
 
     fn present(&self) -> u16 {
         if self.computes {
-            USER + COMPUTES + CHALLENGE + ALGORITHM
+            COMPUTES + CHALLENGE + ALGORITHM
         } else {
-            USER + CHALLENGE + ALGORITHM
+            CHALLENGE + ALGORITHM
         }
     }
 
     fn put(&self, fields: &mut Fields) {
-        fields.user = self.user.key;
-        fields.challenge = self.challenge;
+        fields.challenge.copy_from_slice(self.challenge.bytes());
         fields.algorithm = self.algorithm;
     }
 
     fn given(fields: &Fields) -> Option<WtanParamArg> {
         Some(WtanParamArg {
-            user: UserNumber { key: fields.user },
             computes: fields.has(COMPUTES),
-            challenge: fields.challenge,
+            challenge: Challenge::new(fields.challenge),
             algorithm: fields.algorithm,
         })
     }
 }
 
 impl Part for Verdict {
-    ghost form = { verdict };
+    ghost form = { auth_wtm_res };
 
     fn present(&self) -> u16 {
         VERDICT
@@ -185,7 +187,7 @@ impl Part for Verdict {
 }
 
 impl Part for WtatParamRes {
-    ghost form = { wtat_res };
+    ghost form = { wtat_param_res };
 
     fn present(&self) -> u16 {
         match self.info {
@@ -217,7 +219,7 @@ impl Part for WtatParamRes {
 }
 
 impl Part for WtanParamRes {
-    ghost form = { wtan_res };
+    ghost form = { wtan_param_res };
 
     fn present(&self) -> u16 {
         match self {
@@ -244,7 +246,7 @@ impl Part for WtanParamRes {
 }
 
 impl Part for ErrorCode {
-    ghost form = { error };
+    ghost form = { return_error };
 
     fn present(&self) -> u16 {
         ERROR
@@ -261,7 +263,7 @@ impl Part for ErrorCode {
 
 // The problem of a reject, which may be any.
 impl Part for u8 {
-    ghost form = { problem };
+    ghost form = { reject };
 
     fn present(&self) -> u16 {
         PROBLEM

@@ -1,6 +1,6 @@
 ghost use Rattle.std.specs.Prelude.{◌≡◌, ◌<◌, ◌≤◌, [], ◌∷◌, ◌++◌, length, take, drop, IfSome, nat_eq, slice_set};
 ghost use Rattle.std.specs.List.{remove};
-ghost use Rattle.directory.specs.Contents.{contents, places, stored, vacated};
+ghost use Rattle.directory.specs.Contents.{contents, places, empty_over, stored, vacated};
 ghost use Rattle.directory.specs.Found.{first_at, first_with};
 ghost use Rattle.directory.specs.Steps.{known, add_answer, add_list, remove_answer, remove_list};
 ghost use Rattle.directory.specs.Changes.{added, taken_out, NeverTwoOfAKey, FreedIsErasedAndReused};
@@ -30,7 +30,7 @@ impl<'a, R: Keyed> Directory<'a, R> {
     pub fn new(records: &'a mut [R]) -> Directory<'a, R>
         ensures list { contents result ≡ [] }
         ensures size { places result ≡ length records.old }
-        ensures whole { result ≡ record { records = records.entry; count = 0 } }
+        ensures whole { result ≡ empty_over records.entry }
         ensures apart { NeverTwoOfAKey R.keyed result }
         ensures freed { FreedIsErasedAndReused R.keyed result }
     {
@@ -63,11 +63,13 @@ impl<'a, R: Keyed + Copy> Directory<'a, R> {
 }
 
 impl<'a, R: Keyed + Drop> Directory<'a, R> {
-    /// Adds a record at the end. It refuses a key that is there with 7, then a directory that is full with 8, and a refusal changes
-    /// nothing.
+    /// Adds a record at the end. It refuses a key that is there with 7, then a directory that is full with 8, and a
+    /// refusal changes nothing.
     pub fn add(&mut self, item: R) -> Result<(), Refusal>
-        ensures answer { result ≡ add_answer nat_eq R.keyed (places self.old) (contents self.old) item }
-        ensures list { contents self.new ≡ add_list nat_eq R.keyed (places self.old) (contents self.old) item }
+        ensures answer { result
+            ≡ add_answer nat_eq R.keyed (places self.old) (contents self.old) item }
+        ensures list { contents self.new
+            ≡ add_list nat_eq R.keyed (places self.old) (contents self.old) item }
         ensures size { places self.new ≡ places self.old }
         ensures whole { self.new ≡ added R.keyed self.old item }
     {
@@ -78,7 +80,8 @@ impl<'a, R: Keyed + Drop> Directory<'a, R> {
 
     // The answer to adding a record.
     fn may_add(&self, item: &R) -> Result<(), Refusal>
-        ensures { result ≡ add_answer nat_eq R.keyed (places self.now) (contents self.now) item.now }
+        ensures { result
+            ≡ add_answer nat_eq R.keyed (places self.now) (contents self.now) item.now }
     {
         if self.contains(item.key()) {
             return Err(Refusal::Twice);
@@ -107,7 +110,8 @@ fn put_in<R: Drop>(places: &mut [R], at: usize, item: R)
     places[at] = item;
 }
 
-// Takes the record at a place out of the first ones, and moves those behind it one place down; a blank one goes where the last one was.
+// Takes the record at a place out of the first ones, and moves those behind it one place down; a blank one goes where
+// the last one was.
 fn take_out<R: Drop>(places: &mut [R], at: usize, count: usize, blank: R)
     requires before { at < count }
     requires within { count ≤ length places.old }
@@ -119,8 +123,8 @@ fn take_out<R: Drop>(places: &mut [R], at: usize, count: usize, blank: R)
 }
 
 impl<'a, R: Keyed + Blank + Drop> Directory<'a, R> {
-    /// Removes the first record with the key, and frees its place. It refuses a key that no record has with 6, and then nothing
-    /// changes.
+    /// Removes the first record with the key, and frees its place. It refuses a key that no record has with 6, and then
+    /// nothing changes.
     pub fn remove(&mut self, key: u64) -> Result<(), Refusal>
         ensures answer { result ≡ remove_answer nat_eq R.keyed (contents self.old) key }
         ensures list { contents self.new ≡ remove_list nat_eq R.keyed (contents self.old) key }

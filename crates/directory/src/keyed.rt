@@ -5,6 +5,7 @@ ghost use Rattle.directory.specs.Found.{first_at, first_with};
 pub trait Keyed {
     ghost keyed: { Self → ℕ };
 
+    /// The key by which it is found.
     fn key(&self) -> u64
         ensures { result ≡ keyed self.now };
 }
@@ -13,6 +14,7 @@ pub trait Keyed {
 pub trait Blank {
     ghost blanked: { Self };
 
+    /// That value.
     fn blank() -> Self
         ensures { result ≡ blanked };
 }

@@ -5,4 +5,4 @@ mod link;
 mod subscriber;
 
 pub use link::{Link, add_link, is_link, remove_link};
-pub use subscriber::{KeyPlace, Subscriber, UserKey, add_subscriber, remove_subscriber};
+pub use subscriber::{KeyPlace, Subscriber, add_subscriber, remove_subscriber};

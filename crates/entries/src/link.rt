@@ -44,11 +44,13 @@ impl Link {
     }
 }
 
-/// Adds the link to a peer. Refused with 4 for peer 0, with 7 where the peer is a link, with 8 where no place is free; a refusal
-/// changes nothing.
+/// Adds the link to a peer. Refused with 4 for peer 0, with 7 where the peer is a link, with 8 where no place is free; a
+/// refusal changes nothing.
 pub fn add_link(links: &mut Directory<'_, Link>, peer: u8) -> Result<(), Refusal>
-    ensures answer { result ≡ adding_answer link_key (places links.old) (contents links.old) (link_to peer) }
-    ensures list { contents links.new ≡ adding_left link_key (places links.old) (contents links.old) (link_to peer) }
+    ensures answer { result
+        ≡ adding_answer link_key (places links.old) (contents links.old) (link_to peer) }
+    ensures list { contents links.new
+        ≡ adding_left link_key (places links.old) (contents links.old) (link_to peer) }
     ensures size { places links.new ≡ places links.old }
     ensures whole { links.new ≡ with_entry link_key links.old (link_to peer) }
 {

@@ -7,17 +7,17 @@ ghost use Rattle.entries.specs.Subscriber.{place_number, place_of, subscriber_ke
 
 use directory::{Blank, Directory, Keyed};
 use refusal::Refusal;
-use users::UserNumber;
+use values::{User, UserKey};
 use wire::UnknownNumber;
-
-/// The key that authenticates a user: 16 bytes that its terminal has too.
-pub type UserKey = [u8; 16];
 
 /// Where the parameters of a user are.
 #[derive(Clone, Copy, PartialEq, Eq, Debug)]
 pub enum KeyPlace {
+    /// Nowhere.
     NoParameters = 0,
+    /// In this exchange.
     Here = 1,
+    /// In the authentication server.
     Server = 2,
 }
 
@@ -47,8 +47,11 @@ impl TryFrom<u8> for KeyPlace {
 /// A user, where its parameters are, and its key. It has no Debug, so that its key is never written by one.
 #[derive(Clone, Copy)]
 pub struct Subscriber {
-    pub user: UserNumber,
-    pub place: KeyPlace,
+    /// The user, by which it is found.
+    pub user: User,
+    /// Where the user's parameters are.
+    pub key_place: KeyPlace,
+    /// The user's key, of 16 bytes, from which parameters are made where they are in this exchange.
     pub user_key: UserKey,
 }
 
@@ -56,18 +59,22 @@ impl Keyed for Subscriber {
     ghost keyed = { subscriber_key };
 
     fn key(&self) -> u64 {
-        self.user.key
+        self.user.key()
     }
 }
 
+// The key in a place that is free.
+const NO_KEY: UserKey = [0; 16];
+
+// A place that is free holds the user 0, without parameters, and a key of zero bytes.
 impl Blank for Subscriber {
     ghost blanked = { no_subscriber };
 
     fn blank() -> Subscriber {
         Subscriber {
-            user: UserNumber { key: 0 },
-            place: KeyPlace::NoParameters,
-            user_key: [0; 16],
+            user: User::zero(),
+            key_place: KeyPlace::NoParameters,
+            user_key: NO_KEY,
         }
     }
 }
@@ -77,43 +84,51 @@ impl Subscriber {
     fn new(digits: &[u8], place: u8, user_key: UserKey) -> Result<Subscriber, Refusal>
         ensures { result ≡ subscriber_of digits.now place user_key }
     {
-        let user = UserNumber::from_digits(digits).ok_or(Refusal::Misdialled)?;
-        let place = KeyPlace::try_from(place).or(Err(Refusal::Misdialled))?;
+        let user = User::from_digits(digits).ok_or(Refusal::Misdialled)?;
+        let key_place = KeyPlace::try_from(place).or(Err(Refusal::Misdialled))?;
         Ok(Subscriber {
             user,
-            place,
+            key_place,
             user_key,
         })
     }
 }
 
-/// Adds a subscriber. Refused with 4 where the digits write no user number or the place is above 2, with 7 where the user is
-/// there, with 8 where no place is free; a refusal changes nothing.
+/// Adds a subscriber. Refused with 4 where the digits write no user number or the place is above 2, with 7 where the
+/// user is there, with 8 where no place is free; a refusal changes nothing.
 pub fn add_subscriber(
     subscribers: &mut Directory<'_, Subscriber>,
     digits: &[u8],
     place: u8,
     user_key: UserKey,
 ) -> Result<(), Refusal>
-    ensures answer { result ≡ adding_answer subscriber_key (places subscribers.old) (contents subscribers.old) (subscriber_of digits.now place user_key) }
-    ensures list { contents subscribers.new ≡ adding_left subscriber_key (places subscribers.old) (contents subscribers.old) (subscriber_of digits.now place user_key) }
+    ensures answer { result
+        ≡ adding_answer subscriber_key (places subscribers.old) (contents subscribers.old)
+        (subscriber_of digits.now place user_key) }
+    ensures list { contents subscribers.new
+        ≡ adding_left subscriber_key (places subscribers.old) (contents subscribers.old)
+        (subscriber_of digits.now place user_key) }
     ensures size { places subscribers.new ≡ places subscribers.old }
-    ensures whole { subscribers.new ≡ with_entry subscriber_key subscribers.old (subscriber_of digits.now place user_key) }
+    ensures whole { subscribers.new
+        ≡ with_entry subscriber_key subscribers.old (subscriber_of digits.now place user_key) }
 {
     subscribers.add(Subscriber::new(digits, place, user_key)?)
 }
 
-/// Removes the subscriber with some digits, and erases its key. Refused with 4 where the digits write no user number, with 6
-/// where the user is not there; a refusal changes nothing.
+/// Removes the subscriber with some digits, and erases its key. Refused with 4 where the digits write no user number,
+/// with 6 where the user is not there; a refusal changes nothing.
 pub fn remove_subscriber(
     subscribers: &mut Directory<'_, Subscriber>,
     digits: &[u8],
 ) -> Result<(), Refusal>
-    ensures answer { result ≡ removing_answer subscriber_key (contents subscribers.old) (dialled_key digits.now) }
-    ensures list { contents subscribers.new ≡ removing_left subscriber_key (contents subscribers.old) (dialled_key digits.now) }
+    ensures answer { result
+        ≡ removing_answer subscriber_key (contents subscribers.old) (dialled_key digits.now) }
+    ensures list { contents subscribers.new
+        ≡ removing_left subscriber_key (contents subscribers.old) (dialled_key digits.now) }
     ensures size { places subscribers.new ≡ places subscribers.old }
-    ensures whole { subscribers.new ≡ without_entry subscriber_key no_subscriber subscribers.old (dialled_key digits.now) }
+    ensures whole { subscribers.new
+        ≡ without_entry subscriber_key no_subscriber subscribers.old (dialled_key digits.now) }
 {
-    let user = UserNumber::from_digits(digits).ok_or(Refusal::Misdialled)?;
-    subscribers.remove(user.key)
+    let user = User::from_digits(digits).ok_or(Refusal::Misdialled)?;
+    subscribers.remove(user.key())
 }

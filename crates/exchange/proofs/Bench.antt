@@ -5,25 +5,22 @@ use Rattle.std.proofs.lemmas.Bool.{and_parts, ltb-true}
 use Rattle.std.proofs.lemmas.Option.{none-some, same_Some}
 use Rattle.exchange.specs.declared.dialogue.Dialogue.{Dialogue}
 use Rattle.exchange.specs.Table.{Has}
-use Rattle.apdu.specs.declared.apdus.AuthUnit.{AuthUnit}
+use Rattle.values.specs.declared.proof.AuthUnit.{AuthUnit}
 use Rattle.apdu.specs.declared.apdus.WtatInfo.{WtatInfo}
 use Rattle.apdu.specs.declared.apdus.WtatInfo.TheVariants as info
 use Rattle.apdu.specs.declared.apdus.Body.{Body}
 use Rattle.apdu.specs.declared.apdus.Body.TheVariants as body
-use Rattle.apdu.specs.declared.apdus.ByOperation.TheVariants.{AuthWtmUser, GetWtatParam, WtatParamEnq}
+use Rattle.apdu.specs.declared.apdus.Request.TheVariants as request
+use Rattle.apdu.specs.declared.apdus.ReturnResult.TheVariants.{WtatParam}
+use Rattle.wire.specs.declared.codes.Provider.TheVariants.{Home, Server}
 use Rattle.apdu.specs.Encode.{encode}
-use Rattle.apdu.specs.Laws.{Bytes}
+use Rattle.wire.specs.Fields.{Bytes}
 use Rattle.algorithm.specs.declared.direction.Direction.TheVariants.{User}
 use Rattle.algorithm.specs.Meaning.{Meaning, IsSized, answered}
-use Rattle.users.specs.declared.UserNumber.{UserNumber}
-use Rattle.exchange.specs.declared.numbers.OwnNumber.{OwnNumber}
-use Rattle.exchange.specs.declared.service.Service.{Service}
-use Rattle.exchange.specs.Entry.{fresh}
-use Rattle.exchange.specs.Examples.{home, visitor_peer, asker, links, example_fit_out, sums, digits, user, user_key, server_challenge, parameter, own_draw, buffer}
+use Rattle.values.specs.declared.user.User as users
+use Rattle.exchange.specs.declared.invokes.OwnNumber.{OwnNumber}
+use Rattle.exchange.specs.Examples.{home, visitor_peer, asker, links, sums, digits, user, user_key, server_challenge, parameter, own_draw, buffer}
 use Rattle.exchange.specs.Runs.{Call, PlainInitiation, VisitorStart, Delivery, Reply, Clock, Given}
-
-abbrev pub in_service : Service
-in_service = fresh example_fit_out
 
 pub sums_sized : IsSized sums
 sums_sized = record { number = lit< tt; session = λ d key parameter k p. refl; response = λ session challenge k. refl }
@@ -72,19 +69,19 @@ unit = record { challenge = server_challenge; response = right server_challenge 
 
 -- invokes and results: with no unit, with one, and with values
 abbrev pub authenticate : Body
-authenticate = body.Invoke (AuthWtmUser (record { user = user; unit = None }))
+authenticate = body.Invoke (record { user = user; request = request.AuthWtmUser None })
 
-abbrev pub authenticate_by : UserNumber → AuthUnit → Body
-authenticate_by u by = body.Invoke (AuthWtmUser (record { user = u; unit = Some by }))
+abbrev pub authenticate_by : users.User → AuthUnit → Body
+authenticate_by u by = body.Invoke (record { user = u; request = request.AuthWtmUser (Some by) })
 
 abbrev pub brings : WtatInfo → Body
-brings values = body.ReturnResult (GetWtatParam (record { algorithm = 1; info = values }))
+brings values = body.ReturnResult (WtatParam Home (record { algorithm = 1; info = values }))
 
 abbrev pub enquired : Body
-enquired = body.ReturnResult (WtatParamEnq (record { algorithm = 1; info = info.Unit unit }))
+enquired = body.ReturnResult (WtatParam Server (record { algorithm = 1; info = info.Unit unit }))
 
 abbrev pub asks_values : Bool → Body
-asks_values computes = body.Invoke (GetWtatParam (record { user = user; challenge = None; computes = computes }))
+asks_values computes = body.Invoke (record { user = user; request = request.WtatParam Home (record { computes = computes; challenge = None }) })
 
 -- a visit for invoke 9 of the asker's: with a unit from Home, and with one in the invoke
 abbrev pub visit_by_home : List (Meaning × Call)

@@ -1,24 +1,19 @@
 -- Of the dialogues that have ended, the fold over the places finds the one that ends first. Assumes nothing.
-use Rattle.std.proofs.Common.{◌≡◌, ℕ, ◌+◌, ◌<◌, ◌≤◌, true, false, cond, leb, ◌⊎◌, List, [], ◌∷◌, length, IfSome, Some, None, Ok, Option, Result, sym, refl, ap, ◌∙◌, subst, inl, inr, ⊎_elim, arith}
-use Rattle.std.proofs.lemmas.Bool.{cond_both, leb-true, leb-false}
+use Rattle.std.proofs.Common.{◌≡◌, ℕ, ◌+◌, ◌<◌, ◌≤◌, true, false, ◌&&◌, leb, ◌⊎◌, List, [], ◌∷◌, IfSome, Some, None, Ok, Option, sym, refl, ap, ◌∙◌, subst, inl, inr, ⊎_elim, arith}
+use Rattle.std.proofs.lemmas.Bool.{cond_both, and_parts, and_cases, leb-true, leb-false}
 use Rattle.std.proofs.lemmas.Bool.Decides.{nat_tests}
-use Rattle.refusal.specs.declared.Refusal.{Refusal}
 use Rattle.apdu.specs.declared.apdus.Body.{Body}
-use Rattle.apdu.specs.Encode.{encode}
 use Rattle.exchange.specs.declared.dialogue.Dialogue.{Dialogue}
-use Rattle.exchange.specs.declared.dialogue.Notice.{Notice}
 use Rattle.exchange.specs.declared.dialogue.Step.{Step}
 use Rattle.exchange.specs.declared.dialogue.Step.TheVariants.{Closes}
-use Rattle.exchange.specs.declared.numbers.Owed.{Owed}
-use Rattle.exchange.specs.declared.numbers.OwnNumber.{OwnNumber}
-use Rattle.exchange.specs.declared.outcome.Done.{Done}
-use Rattle.exchange.specs.declared.outcome.Done.TheVariants.{Sent, Reported}
+use Rattle.exchange.specs.declared.invokes.Owed.{Owed}
+use Rattle.exchange.specs.declared.outcome.Outcome.{Outcome}
 use Rattle.exchange.specs.declared.outcome.Report.{Report}
 use Rattle.exchange.specs.declared.service.Service.{Service}
-use Rattle.exchange.specs.Calls.{After, told}
-use Rattle.exchange.specs.Dialogue.{settled, expired}
+use Rattle.exchange.specs.Dialogue.{answer_or_report, expired}
+use Rattle.exchange.specs.Outcome.{done_of}
 use Rattle.exchange.specs.State.{owed_by}
-use Rattle.exchange.specs.Table.{Has, ends_by, ends_before, first_of_two, first_to_end_from, first_to_end}
+use Rattle.exchange.specs.Table.{Has, ends_before, better, first_to_end_from, first_to_end}
 use Rattle.exchange.specs.Laws.{NoneEnded, EndsFirst, Earliest}
 
 -- d ends before e, or with it where its name is no higher
@@ -90,19 +85,24 @@ module _ (reading : ℕ) (ss : List (Option Dialogue)) where
   abbrev Turn : Option (ℕ × Dialogue) → Option Dialogue → Option (ℕ × Dialogue) → Type 0
   Turn best s new = Ended reading new × ((found : Option (ℕ × Dialogue)) → Finds reading (slot_of new ∷ ss) found → Finds reading (slot_of best ∷ s ∷ ss) found)
 
-  turn_first : (i : ℕ) (d : Dialogue) (best : Option (ℕ × Dialogue)) → d.ends ≤ reading → Ended reading best → Turn best (Some d) (first_of_two i (Some d) best)
-  turn_first i d None h k = (h, λ found. finds_both (Some d) None (Some d) found (inr refl) (free_later (Some d)) (later_itself (Some d)))
-  turn_first i d (Some (j, b)) h k =
-      cond_both (ends_before d b) _ _ (Turn (Some (j, b)) (Some d))
-      (λ t. (h, λ found. finds_both (Some d) (Some b) (Some d) found (inr refl) (other_later d b (ends_before_no_later d b t)) (later_itself (Some d))))
-      (λ t. (k, λ found. finds_both (Some b) (Some b) (Some d) found (inl refl) (later_itself (Some b)) (other_later b d (else_no_later d b t))))
+  turn_ended : (i : ℕ) (d : Dialogue) (best : Option (ℕ × Dialogue)) → Ended reading best → Turn best (Some d) (better reading i (Some d) best)
+  turn_ended i d None k =
+      cond_both (leb d.ends reading) _ _ (Turn None (Some d))
+      (λ t. (leb-true d.ends reading t, λ found. finds_both (Some d) None (Some d) found (inr refl) (free_later (Some d)) (later_itself (Some d))))
+      (λ f. (k, λ found. finds_both None None (Some d) found (inl refl) (later_itself None) (running_later None d (leb-false d.ends reading f))))
+  turn_ended i d (Some (j, b)) k =
+      cond_both (leb d.ends reading && ends_before d b) _ _ (Turn (Some (j, b)) (Some d))
+      (λ t. let p = and_parts (leb d.ends reading) (ends_before d b) t in
+      (leb-true d.ends reading p.0, λ found. finds_both (Some d) (Some b) (Some d) found (inr refl) (other_later d b (ends_before_no_later d b p.1)) (later_itself (Some d))))
+      (λ f. (
+        k,
+        λ found. finds_both (Some b) (Some b) (Some d) found (inl refl) (later_itself (Some b))
+            (⊎_elim (λ l. running_later (Some b) d (leb-false d.ends reading l)) (λ l. other_later b d (else_no_later d b l)) (and_cases (leb d.ends reading) (ends_before d b) f)),
+      ))
 
-  turn : (i : ℕ) (s : Option Dialogue) (best : Option (ℕ × Dialogue)) → Ended reading best → Turn best s (cond (ends_by reading s) (first_of_two i s best) best)
+  turn : (i : ℕ) (s : Option Dialogue) (best : Option (ℕ × Dialogue)) → Ended reading best → Turn best s (better reading i s best)
   turn i None best k = (k, λ found. finds_both (slot_of best) (slot_of best) None found (inl refl) (later_itself (slot_of best)) (free_later (slot_of best)))
-  turn i (Some d) best k =
-      cond_both (leb d.ends reading) _ _ (Turn best (Some d))
-      (λ t. turn_first i d best (leb-true d.ends reading t) k)
-      (λ t. (k, λ found. finds_both (slot_of best) (slot_of best) (Some d) found (inl refl) (later_itself (slot_of best)) (running_later (slot_of best) d (leb-false d.ends reading t))))
+  turn i (Some d) best k = turn_ended i d best k
 
 first_from_finds : (reading : ℕ) (ss : List (Option Dialogue)) (i : ℕ) (best : Option (ℕ × Dialogue)) → Ended reading best → Finds reading (slot_of best ∷ ss) (first_to_end_from reading i best ss)
 first_from_finds reading [] i None k = λ e. ⊎_elim (λ p. cc) absurd
@@ -125,23 +125,16 @@ first_to_end_is reading slots found e = subst (Finds reading slots) e (first_to_
 
 -- what is told of the dialogue that ends first
 module _ (reading : ℕ) (s : Service) (place : ℕ) (d : Dialogue) (found : first_to_end reading s.dialogues ≡ Some (place, d)) where
-  settled_first : (t u : Service) (out left : List ℕ) (done : Done) (b : Body) (r : Report) (o : Option Owed) → owed_by d.state ≡ o → record { result = Ok done; service = u; buffer = left } ≡ told t d.name (settled o b r) out → Earliest s reading (Ok done)
-  settled_first t u out left done b r None e h =
-      let k : ◌≡◌ {A = Result Done Refusal} (Ok done) (Ok (Reported d.name r)) = ap (λ (a : After). a.result) h in
-      let is : Reported d.name r ≡ done = cc in
-      subst (λ (x : Done). Earliest s reading (Ok x)) is (d, (e, refl), as_law reading s.dialogues place d (first_to_end_is reading s.dialogues _ found))
-  settled_first t u out left done b r (Some owed) e h =
-      let size : ℕ = length (encode (record { id = owed.id.0; body = b })) in
-      let k : ◌≡◌ {A = Result Done Refusal} (Ok done) (Ok (Sent owed.peer size)) = ap (λ (a : After). a.result) h in
-      let is : Sent owed.peer size ≡ done = cc in
-      subst (λ (x : Done). Earliest s reading (Ok x)) is (d, (owed, e, refl), as_law reading s.dialogues place d (first_to_end_is reading s.dialogues _ found))
+  ends_first : EndsFirst reading s.dialogues d
+  ends_first = as_law reading s.dialogues place d (first_to_end_is reading s.dialogues _ found)
 
-  pub told_first : (t u : Service) (out left : List ℕ) (done : Done) (name : OwnNumber) (n : Notice) → name ≡ d.name → n ≡ expired d.state → record { result = Ok done; service = u; buffer = left } ≡ told t name n out → Earliest s reading (Ok done)
-  told_first t u out left done name n is_name is_notice h =
-      let by_notice : told t name n out ≡ told t name (expired d.state) out = ap (λ (x : Notice). told t name x out) is_notice in
-      let by_name : told t name (expired d.state) out ≡ told t d.name (expired d.state) out = ap (λ (x : OwnNumber). told t x (expired d.state) out) is_name in
-      settled_first t u out left done _ _ (owed_by d.state) refl (h ∙ by_notice ∙ by_name)
+  concluded_first : (b : Body) (r : Report) (o : Option Owed) → owed_by d.state ≡ o → Earliest s reading (Ok (done_of (answer_or_report o b d.name r)))
+  concluded_first b r None e = (d, (e, refl), ends_first)
+  concluded_first b r (Some owed) e = (d, (owed, e, refl), ends_first)
+
+  pub done_first : (o : Outcome) → o ≡ expired d → Earliest s reading (Ok (done_of o))
+  done_first o is = subst (λ (x : Outcome). Earliest s reading (Ok (done_of x))) (sym is) (concluded_first _ _ (owed_by d.state) refl)
 
 -- a step that closes, and leaves the dialogue as it was
-pub closing : (d left : Dialogue) (step : Step) (n m : Notice) → ◌≡◌ {A = Step × Dialogue} (step, left) (Closes m, d) → step ≡ Closes n → (left.name ≡ d.name) × (n ≡ m)
-closing d left step n m e is = let first : step ≡ Closes m = ap (λ (p : Step × Dialogue). p.0) e in (ap (λ (p : Step × Dialogue). p.1.name) e, cc)
+pub closing : (d left : Dialogue) (step : Step) (n m : Outcome) → ◌≡◌ {A = Step × Dialogue} (step, left) (Closes m, d) → step ≡ Closes n → n ≡ m
+closing d left step n m e is = let first : step ≡ Closes m = ap (λ (p : Step × Dialogue). p.0) e in cc

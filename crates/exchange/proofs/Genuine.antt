@@ -4,11 +4,10 @@ use Rattle.std.specs.List.{AllByRecursion}
 use Rattle.algorithm.specs.Meaning.{Meaning}
 use Rattle.exchange.specs.declared.fit_out.FitOut.{FitOut}
 use Rattle.exchange.specs.declared.service.Service.{Service}
-use Rattle.exchange.specs.Deliver.{replied}
-use Rattle.exchange.specs.Entry.{fresh}
+use Rattle.exchange.specs.EnterService.{fresh}
 use Rattle.exchange.specs.FitOut.{fitted}
 use Rattle.exchange.specs.Genuine.{Judges, AlwaysGenuine}
-use Rattle.exchange.specs.Runs.{Call, Given, called, at_end}
+use Rattle.exchange.specs.Runs.{Call, Reply, Given, called, at_end}
 use Rattle.exchange.proofs.Balanced.{step, start, run}
 use Rattle.exchange.proofs.Invariant.{Inv}
 use Rattle.exchange.proofs.Names.{Holds, leaves_holds}
@@ -41,4 +40,4 @@ always_genuine f lawful m key parameter values w earlier delivery later given br
     let inv3 : Inv now = subst Inv (sym same) ((run later next inv2 t.1.1).inv) in
     let h : Holds now name.0 shown.0 = subst (λ (x : Service). Holds x name.0 shown.0) (sym same) (run_holds later next name.0 shown.0 inv2 t.1.1 shown.2) in
     let r = wrote_right m key parameter values w challenge shown.0 shown.1 in
-    subst (λ (e : List ℕ). Judges now name (replied n now reading name response out) response e) r (reply_judged n now inv3 reading name response shown.0 h out done is)
+    subst (λ (e : List ℕ). Judges now name (called n now (Reply reading name response out)) response e) r (reply_judged n now inv3 reading name response shown.0 h out done is)

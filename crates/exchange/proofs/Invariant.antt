@@ -1,41 +1,29 @@
 -- What holds between the calls of a run, and what one call keeps: from the one place that it writes to the table. Assumes nothing.
-use Rattle.std.proofs.Common.{◌≡◌, ℕ, ◌+◌, ◌<◌, ◌≤◌, Bool, true, false, ◌&&◌, List, length, take, drop, get_or, set, Some, None, Ok, Option, Result, ◌==◌, All, count_by, sym, refl, ap, ◌∙◌, ◌⊎◌, subst, inl, inr, arith}
-use Rattle.std.proofs.Math.Seq.{take-append_seam}
+use Rattle.std.proofs.Common.{◌≡◌, ℕ, ◌+◌, ◌<◌, ◌≤◌, Bool, true, false, List, length, get_or, set, Some, None, Ok, Err, Option, All, count_by, sym, refl, ap, ◌∙◌, subst, inl, inr, arith}
 use Rattle.std.proofs.lemmas.Bool.{false≢true, false_from_ne_true}
 use Rattle.std.proofs.lemmas.List.Elements.{All-set}
-use Rattle.std.proofs.lemmas.Option.{none-some, same_Some}
+use Rattle.std.proofs.lemmas.Option.{none-some}
 use Rattle.refusal.specs.declared.Refusal.{Refusal}
-use Rattle.wire.specs.declared.codes.Verdict.{Verdict}
-use Rattle.users.specs.Users.{is_user}
-use Rattle.apdu.specs.declared.apdus.Apdu.{Apdu}
-use Rattle.apdu.specs.declared.apdus.NoApdu.{NoApdu}
-use Rattle.apdu.specs.Decode.{received_as}
-use Rattle.apdu.specs.Encode.{encode, is_right}
-use Rattle.apdu.specs.Fronts.{front}
-use Rattle.apdu.specs.Laws.{BodySized}
-use Rattle.apdu.proofs.WrittenReadsBack.{written_reads_back}
+use Rattle.values.specs.User.{is_user}
 use Rattle.exchange.specs.declared.dialogue.Dialogue.{Dialogue}
-use Rattle.exchange.specs.declared.dialogue.Notice.{Notice}
-use Rattle.exchange.specs.declared.dialogue.Notice.TheVariants as notice
 use Rattle.exchange.specs.declared.fit_out.FitOut.{FitOut}
 use Rattle.exchange.specs.declared.fit_out.Timer.{Timer}
-use Rattle.exchange.specs.declared.numbers.OwnNumber.{OwnNumber}
-use Rattle.exchange.specs.declared.outcome.Done.{Done}
-use Rattle.exchange.specs.declared.outcome.Done.TheVariants.{Sent, Reported}
-use Rattle.exchange.specs.declared.outcome.Report.{Report}
-use Rattle.exchange.specs.declared.outcome.Report.TheVariants as report
+use Rattle.exchange.specs.declared.invokes.Owed.{Owed}
+use Rattle.exchange.specs.declared.invokes.OwnNumber.{OwnNumber}
+use Rattle.exchange.specs.declared.outcome.Outcome.{Outcome}
 use Rattle.exchange.specs.declared.service.Service.{Service}
 use Rattle.exchange.specs.declared.state.State.{State}
 use Rattle.exchange.specs.declared.state.State.TheVariants.{FetchingForInitiation, Initiating, Executing}
-use Rattle.exchange.specs.Calls.{After, refused, told, quiet}
+use Rattle.exchange.specs.Bounds.{longest_timer, longest_dialogue}
 use Rattle.exchange.specs.FitOut.{duration}
-use Rattle.exchange.specs.Genuine.{verdict_in, said, said_to}
 use Rattle.exchange.specs.Moves.{IsClock, Moves}
-use Rattle.exchange.specs.Runs.{Call, PlainInitiation, InitiationWithValues, VisitorStart, NetworkProof, Delivery, Reply, Clock, invokes, answers, brings, takes, tells, sends_to, owing, awaiting, lapses, expires}
-use Rattle.exchange.specs.Service.{CanAnswer, read_at, written}
-use Rattle.exchange.specs.State.{end_of, asked_by, is_asked_of}
+use Rattle.exchange.specs.Outcome.{Decision, After, at_edge, done_of, buffer_after}
+use Rattle.exchange.specs.Runs.{Call, PlainInitiation, InitiationWithValues, VisitorStart, NetworkProof, Delivery, Reply, Clock, CallMade, invokes, answers, brings, takes, sends, sends_to, owing, awaiting, lapses, expires}
+use Rattle.exchange.specs.Service.{read_at, written}
+use Rattle.exchange.specs.State.{end_of, asked_by, owed_by, is_asked_of}
 use Rattle.exchange.specs.Table.{owes, awaits}
-use Rattle.exchange.specs.Verdicts.{IsReply, verdict_reported, TellsVerdicts}
+use Rattle.exchange.specs.Verdicts.{TellsVerdicts}
+use Rattle.exchange.proofs.Edge.{Sendable, says, TellsOnly, sends_edge, verdicts_edge}
 use Rattle.exchange.proofs.Left.{none_late}
 use Rattle.exchange.proofs.Moved.{Arrives, Departs, put_moves, same_moves}
 use Rattle.exchange.proofs.Names.{Names, Leaves, May, leaves_names}
@@ -43,11 +31,15 @@ use Rattle.exchange.proofs.Searched.{bit, Open, Later, one_slot, count_none, bit
 
 -- how long after its opening a dialogue may last in a state
 abbrev pub span : State → ℕ
-span (Initiating asked) = 120000
-span (Executing owed expected) = 120000
-span s = 60000
+span (Initiating asked) = longest_dialogue
+span (Executing owed expected) = longest_dialogue
+span s = longest_timer
 
--- the user of an initiation with values can be written
+-- what is owed has an id of at least 1
+abbrev pub CanAnswer : State → Type 0
+CanAnswer s = (owed : Owed) → owed_by s ≡ Some owed → 1 ≤ owed.id.0
+
+-- the user of an initiation with values is one
 abbrev pub UserRight : State → Type 0
 UserRight (FetchingForInitiation asked user peer) = is_user user ≡ true
 UserRight s = Unit {0}
@@ -63,52 +55,34 @@ pub record Fine (fit : FitOut) (last next : ℕ) (d : Dialogue) : Type 0 where
   pub user : UserRight d.state
 
 pub record Inv (s : Service) : Type 0 where
-  pub timers : (t : Timer) → (0 < duration s.fit t) × (duration s.fit t ≤ 60000)
+  pub timers : (t : Timer) → (0 < duration s.fit t) × (duration s.fit t ≤ longest_timer)
   pub next : 1 ≤ s.next.0
   pub fine : All (Open (Fine s.fit s.last s.next.0)) s.dialogues
   pub owed : (peer id : ℕ) → owing peer id s ≤ 1
   pub awaited : (peer id : ℕ) → awaiting peer id s ≤ 1
   pub names : Names s
 
+abbrev pub made : Service → Call → After → CallMade
+made s c a = record { before = s; call = c; after = a }
+
 -- what one call keeps
 pub record Step (s : Service) (c : Call) (a : After) : Type 0 where
   pub inv : Inv a.service
-  pub owed : (peer id : ℕ) → bit (takes (invokes id) peer (record { before = s; call = c; after = a })) + owing peer id s ≡ bit (sends_to (answers id) peer (record { before = s; call = c; after = a })) + owing peer id a.service
-  pub awaited : (peer id : ℕ) → bit (sends_to (invokes id) peer (record { before = s; call = c; after = a })) + awaiting peer id s ≡ bit (takes (answers id) peer (record { before = s; call = c; after = a })) + expires peer id (record { before = s; call = c; after = a }) + awaiting peer id a.service
+  pub owed : (peer id : ℕ) → bit (takes (invokes id) peer (made s c a)) + owing peer id s ≡ bit (sends_to (answers id) peer (made s c a)) + owing peer id a.service
+  pub awaited : (peer id : ℕ) → bit (sends_to (invokes id) peer (made s c a)) + awaiting peer id s ≡ bit (takes (answers id) peer (made s c a)) + expires peer id (made s c a) + awaiting peer id a.service
   pub next : s.next.0 ≤ a.service.next.0
   pub leaves : Leaves s a.service
   pub fit : a.service.fit ≡ s.fit
-  pub moves : Moves s.fit (record { before = s; call = c; after = a })
-  pub verdicts : TellsVerdicts (record { before = s; call = c; after = a })
-  pub fresh : (peer id : ℕ) → sends_to (invokes id) peer (record { before = s; call = c; after = a }) ≡ true → (id ≡ s.next.0) × (s.next.0 < a.service.next.0)
+  pub moves : Moves s.fit (made s c a)
+  pub verdicts : TellsVerdicts (made s c a)
+  pub fresh : (peer id : ℕ) → sends_to (invokes id) peer (made s c a) ≡ true → (id ≡ s.next.0) × (s.next.0 < a.service.next.0)
 
--- an APDU that goes to a peer
-abbrev pub says : (Result Apdu NoApdu → Bool) → ℕ → Notice → Bool
-says read peer (notice.Report r) = false
-says read peer (notice.Send to a) = read (Ok a) && (to == peer)
-
--- a verdict is told only on a reply, or is reported as it came
-abbrev pub TellsOnly : Call → Notice → Type 0
-TellsOnly c (notice.Report (report.Verdict v)) = IsReply c ⊎ (said_to verdict_in c ≡ Some v)
-TellsOnly c (notice.Report r) = Unit {0}
-TellsOnly c (notice.Send to a) = (v : Verdict) → verdict_in a.body ≡ Some v → IsReply c
-
-report_tells : (c : Call) (name : OwnNumber) (r : Report) → TellsOnly c (notice.Report r) → (v : Verdict) → verdict_reported (Ok (Reported name r)) ≡ Some v → IsReply c ⊎ (said_to verdict_in c ≡ Some v)
-report_tells c name (report.Verdict w) h v e = subst (λ (x : Verdict). IsReply c ⊎ (said_to verdict_in c ≡ Some x)) (same_Some w v e) h
-report_tells c name (report.Challenge challenge) h v e = absurd (none-some v e)
-report_tells c name (report.Failure cause) h v e = absurd (none-some v e)
-report_tells c name (report.Response response) h v e = absurd (none-some v e)
-
--- it reads back as it was written
-abbrev pub Sendable : Notice → Type 0
-Sendable (notice.Report r) = Unit {0}
-Sendable (notice.Send to a) = BodySized a.body × (is_right a ≡ true)
-
-pub reads_back : (a : Apdu) (out : List ℕ) → BodySized a.body → is_right a ≡ true → received_as (take (length (encode a)) (front (encode a) out)) ≡ Ok a
-reads_back a out sized right = ap received_as (take-append_seam (encode a) (drop (length (encode a)) out)) ∙ written_reads_back a sized right
+-- what a call decides keeps it, whatever the buffer
+abbrev pub Keeps : Service → Call → Decision → Type 0
+Keeps s c decision = (out : List ℕ) → Step s c (at_edge s out decision)
 
 -- what is said of the one place that a done call writes
-pub record Put (s : Service) (c : Call) (r : ℕ) (n : OwnNumber) (k : ℕ) (x : Option Dialogue) (t : Notice) : Type 0 where
+pub record Put (s : Service) (c : Call) (r : ℕ) (n : OwnNumber) (k : ℕ) (x : Option Dialogue) (o : Outcome) : Type 0 where
   pub old : Option Dialogue
   pub within : k < length s.dialogues
   pub stands : get_or s.dialogues k None ≡ old
@@ -116,26 +90,26 @@ pub record Put (s : Service) (c : Call) (r : ℕ) (n : OwnNumber) (k : ℕ) (x :
   pub last : s.last ≤ r
   pub next : s.next.0 ≤ n.0
   pub fine : Open (Fine s.fit r n.0) x
-  pub owed : (peer id : ℕ) → bit (brings (invokes id) peer c) + bit (owes peer id old) ≡ bit (says (answers id) peer t) + bit (owes peer id x)
+  pub owed : (peer id : ℕ) → bit (brings (invokes id) peer c) + bit (owes peer id old) ≡ bit (says (answers id) peer o) + bit (owes peer id x)
   pub once : (peer id : ℕ) → brings (invokes id) peer c ≡ true → owing peer id s ≡ 0
-  pub awaited : (peer id : ℕ) → bit (says (invokes id) peer t) + bit (awaits peer id old) ≡ bit (brings (answers id) peer c) + lapses peer id s (written s r n k x) c + bit (awaits peer id x)
-  pub fresh : (peer id : ℕ) → says (invokes id) peer t ≡ true → (id ≡ s.next.0) × (s.next.0 < n.0)
-  pub sendable : Sendable t
+  pub awaited : (peer id : ℕ) → bit (says (invokes id) peer o) + bit (awaits peer id old) ≡ bit (brings (answers id) peer c) + lapses peer id s (written s r n k x) c + bit (awaits peer id x)
+  pub fresh : (peer id : ℕ) → says (invokes id) peer o ≡ true → (id ≡ s.next.0) × (s.next.0 < n.0)
+  pub sendable : Sendable o
   pub stays : IsClock c → r ≡ s.last
-  pub verdicts : TellsOnly c t
+  pub verdicts : TellsOnly c o
   pub may : May s.next.0 n.0 old x
   pub arrives : Arrives s c x
   pub departs : Departs c old x
 
 -- what is said of a done call that writes no place: what it takes it answers at once
-pub record Only (s : Service) (c : Call) (r : ℕ) (t : Notice) : Type 0 where
+pub record Only (s : Service) (c : Call) (r : ℕ) (o : Outcome) : Type 0 where
   pub rest : All (Later r) s.dialogues
   pub last : s.last ≤ r
-  pub owed : (peer id : ℕ) → bit (brings (invokes id) peer c) ≡ bit (says (answers id) peer t)
-  pub sent : (peer id : ℕ) → says (invokes id) peer t ≡ false
+  pub owed : (peer id : ℕ) → bit (brings (invokes id) peer c) ≡ bit (says (answers id) peer o)
+  pub sent : (peer id : ℕ) → says (invokes id) peer o ≡ false
   pub got : (peer id : ℕ) → brings (answers id) peer c ≡ false
-  pub verdicts : TellsOnly c t
-  pub sendable : Sendable t
+  pub verdicts : TellsOnly c o
+  pub sendable : Sendable o
 
 fine_later : (fit : FitOut) (last next r n : ℕ) (slot : Option Dialogue) → last ≤ r → next ≤ n → Open (Fine fit last next) slot → Later r slot → Open (Fine fit r n) slot
 fine_later fit last next r n None h l f g = tt
@@ -184,8 +158,8 @@ took true sent e h = refl
 took false sent e h = let one = ap bit h in absurd (omega arith)
 
 module _ (s : Service) (inv : Inv s) (c : Call) where
-  pub refused_step : (out : List ℕ) (n : Refusal) → Step s c (refused s out n)
-  refused_step out n = record {
+  pub refused_step : (n : Refusal) → Keeps s c (Err n)
+  refused_step n out = record {
     inv = inv;
     owed = λ peer id. refl;
     awaited = λ peer id. omega arith;
@@ -194,82 +168,51 @@ module _ (s : Service) (inv : Inv s) (c : Call) where
     verdicts = record { sent = λ v e. absurd (none-some v e); reported = λ v e. absurd (none-some v e) };
     leaves = inl (refl, omega arith);
     fit = refl;
-    moves = same_moves s.fit s c (refused s out n) refl (λ peer id e. absurd (false≢true e));
+    moves = same_moves s.fit s c (at_edge s out (Err n)) refl (λ peer id e. absurd (false≢true e));
   }
 
-  put_with : (r : ℕ) (n : OwnNumber) (k : ℕ) (x : Option Dialogue) (t : Notice) (done : Done) (left : List ℕ) → Put s c r n k x t →
-      TellsVerdicts (record { before = s; call = c; after = record { result = Ok done; service = written s r n k x; buffer = left } }) →
-      ((read : Result Apdu NoApdu → Bool) (peer : ℕ) → tells read peer left (Ok done) ≡ says read peer t) →
-      Step s c (record { result = Ok done; service = written s r n k x; buffer = left })
-  put_with r n k x t done left p verdicts tell =
-      let owed : (peer id : ℕ) → bit (brings (invokes id) peer c) + owing peer id s ≡ bit (says (answers id) peer t) + count_by (owes peer id) (set s.dialogues k x)
+  -- one place is written
+  pub put_step : (r : ℕ) (n : OwnNumber) (k : ℕ) (x : Option Dialogue) (o : Outcome) → Put s c r n k x o → Keeps s c (Ok (o, written s r n k x))
+  put_step r n k x o p out =
+      let tell = sends_edge o out p.sendable in
+      let owed : (peer id : ℕ) → bit (brings (invokes id) peer c) + owing peer id s ≡ bit (says (answers id) peer o) + count_by (owes peer id) (set s.dialogues k x)
       = λ peer id. omega (arith, p.owed peer id, one_slot s.dialogues k x p.old (owes peer id) p.within p.stands) in
       let awaited : (peer id : ℕ) → count_by (awaits peer id) (set s.dialogues k x) + bit (awaits peer id p.old) ≡ awaiting peer id s + bit (awaits peer id x)
       = λ peer id. one_slot s.dialogues k x p.old (awaits peer id) p.within p.stands in
-      let leaves : Leaves s (written s r n k x) = inr (record { next = p.next; place = k; slot = x; is = refl; may = subst (λ (o : Option Dialogue). May s.next.0 n.0 o x) (sym p.stands) p.may }) in
+      let leaves : Leaves s (written s r n k x) = inr (record { next = p.next; place = k; slot = x; is = refl; may = subst (λ (slot : Option Dialogue). May s.next.0 n.0 slot x) (sym p.stands) p.may }) in
       record {
         inv = record {
           timers = inv.timers;
           next = omega (arith, p.next, inv.next);
           fine = All-set (Open (Fine s.fit r n.0)) s.dialogues k x p.fine (all_later s.fit s.last s.next.0 r n.0 s.dialogues p.last p.next inv.fine p.rest);
           owed = λ peer id. at_most_one (brings (invokes id) peer c) _ _ _ (owed peer id) (inv.owed peer id) (p.once peer id);
-          awaited = λ peer id. at_most_one_awaited (says (invokes id) peer t) _ _ _ _ _ _ (p.awaited peer id) (awaited peer id) (inv.awaited peer id) (bit_most (awaits peer id x)) (λ e. unawaited s inv peer id (p.fresh peer id e).0);
+          awaited = λ peer id. at_most_one_awaited (says (invokes id) peer o) _ _ _ _ _ _ (p.awaited peer id) (awaited peer id) (inv.awaited peer id) (bit_most (awaits peer id x)) (λ e. unawaited s inv peer id (p.fresh peer id e).0);
           names = leaves_names s (written s r n k x) inv.names leaves;
         };
         leaves = leaves;
         fit = refl;
-        moves = put_moves s inv.names c r n k x p.old done left p.within p.stands p.arrives p.departs p.stays
+        moves = put_moves s inv.names c r n k x p.old (done_of o) (buffer_after o out) p.within p.stands p.arrives p.departs p.stays
             (λ peer id. omega (arith, p.owed peer id, ap bit (tell (answers id) peer)));
         owed = λ peer id. omega (arith, owed peer id, ap bit (tell (answers id) peer));
         awaited = λ peer id. omega (arith, p.awaited peer id, awaited peer id, ap bit (tell (invokes id) peer));
         next = p.next;
-        verdicts = verdicts;
+        verdicts = verdicts_edge s (written s r n k x) c out o p.sendable p.verdicts;
         fresh = λ peer id e. p.fresh peer id (sym (tell (invokes id) peer) ∙ e);
       }
 
-  pub put_step : (r : ℕ) (n : OwnNumber) (k : ℕ) (x : Option Dialogue) (name : OwnNumber) (t : Notice) (out : List ℕ) → Put s c r n k x t → Step s c (told (written s r n k x) name t out)
-  put_step r n k x name (notice.Report report) out p = put_with r n k x (notice.Report report) (Reported name report) out p
-      (record { sent = λ v e. absurd (none-some v e); reported = λ v e. report_tells c name report p.verdicts v e }) (λ read peer. refl)
-  put_step r n k x name (notice.Send to a) out p =
-      put_with r n k x (notice.Send to a) (Sent to (length (encode a))) (front (encode a) out) p
-      (record { sent = λ v e. p.verdicts v (sym (ap (said verdict_in) (reads_back a out p.sendable.0 p.sendable.1)) ∙ e); reported = λ v e. absurd (none-some v e) })
-      (λ read peer. ap (λ z. read z && (to == peer)) (reads_back a out p.sendable.0 p.sendable.1))
-
-  only_with : (r : ℕ) (t : Notice) (done : Done) (left : List ℕ) → Only s c r t →
-      TellsVerdicts (record { before = s; call = c; after = record { result = Ok done; service = read_at s r; buffer = left } }) →
-      ((read : Result Apdu NoApdu → Bool) (peer : ℕ) → tells read peer left (Ok done) ≡ says read peer t) →
-      Step s c (record { result = Ok done; service = read_at s r; buffer = left })
-  only_with r t done left p verdicts tell = record {
-    verdicts = verdicts;
-    inv = record { timers = inv.timers; next = inv.next; fine = all_later s.fit s.last s.next.0 r s.next.0 s.dialogues p.last (omega arith) inv.fine p.rest; owed = inv.owed; awaited = inv.awaited; names = leaves_names s (read_at s r) inv.names (inl (refl, omega arith)) };
-    leaves = inl (refl, omega arith);
-    fit = refl;
-    moves = same_moves s.fit s c (record { result = Ok done; service = read_at s r; buffer = left }) refl
-        (λ peer id sent. took (brings (invokes id) peer c) (tells (answers id) peer left (Ok done)) (omega (arith, p.owed peer id, ap bit (tell (answers id) peer))) sent);
-    owed = λ peer id. omega (arith, p.owed peer id, ap bit (tell (answers id) peer));
-    awaited = λ peer id. omega (arith, ap bit (p.sent peer id), ap bit (p.got peer id), ap bit (tell (invokes id) peer), unlapsed c s r peer id);
-    next = omega arith;
-    fresh = λ peer id e. absurd (false≢true (sym (p.sent peer id) ∙ (sym (tell (invokes id) peer) ∙ e)));
-  }
-
-  pub only_step : (r : ℕ) (name : OwnNumber) (t : Notice) (out : List ℕ) → Only s c r t → Step s c (told (read_at s r) name t out)
-  only_step r name (notice.Report report) out p = only_with r (notice.Report report) (Reported name report) out p
-      (record { sent = λ v e. absurd (none-some v e); reported = λ v e. report_tells c name report p.verdicts v e }) (λ read peer. refl)
-  only_step r name (notice.Send to a) out p =
-      only_with r (notice.Send to a) (Sent to (length (encode a))) (front (encode a) out) p
-      (record { sent = λ v e. p.verdicts v (sym (ap (said verdict_in) (reads_back a out p.sendable.0 p.sendable.1)) ∙ e); reported = λ v e. absurd (none-some v e) })
-      (λ read peer. ap (λ z. read z && (to == peer)) (reads_back a out p.sendable.0 p.sendable.1))
-
-  -- a call that takes nothing and tells nothing
-  pub quiet_step : (r : ℕ) (out : List ℕ) → All (Later r) s.dialogues → s.last ≤ r → ((peer id : ℕ) → brings (invokes id) peer c ≡ false) → ((peer id : ℕ) → brings (answers id) peer c ≡ false) → Step s c (quiet s r out)
-  quiet_step r out rest last no_invoke no_answer = record {
-    inv = record { timers = inv.timers; next = inv.next; fine = all_later s.fit s.last s.next.0 r s.next.0 s.dialogues last (omega arith) inv.fine rest; owed = inv.owed; awaited = inv.awaited; names = leaves_names s (read_at s r) inv.names (inl (refl, omega arith)) };
-    leaves = inl (refl, omega arith);
-    fit = refl;
-    verdicts = record { sent = λ v e. absurd (none-some v e); reported = λ v e. absurd (none-some v e) };
-    moves = same_moves s.fit s c (quiet s r out) refl (λ peer id e. absurd (false≢true e));
-    owed = λ peer id. omega (arith, ap bit (no_invoke peer id));
-    awaited = λ peer id. omega (arith, ap bit (no_answer peer id), unlapsed c s r peer id);
-    next = omega arith;
-    fresh = λ peer id e. absurd (false≢true e);
-  }
+  -- no place is
+  pub only_step : (r : ℕ) (o : Outcome) → Only s c r o → Keeps s c (Ok (o, read_at s r))
+  only_step r o p out =
+      let tell = sends_edge o out p.sendable in
+      record {
+        verdicts = verdicts_edge s (read_at s r) c out o p.sendable p.verdicts;
+        inv = record { timers = inv.timers; next = inv.next; fine = all_later s.fit s.last s.next.0 r s.next.0 s.dialogues p.last (omega arith) inv.fine p.rest; owed = inv.owed; awaited = inv.awaited; names = leaves_names s (read_at s r) inv.names (inl (refl, omega arith)) };
+        leaves = inl (refl, omega arith);
+        fit = refl;
+        moves = same_moves s.fit s c (at_edge s out (Ok (o, read_at s r))) refl
+            (λ peer id sent. took (brings (invokes id) peer c) (sends (answers id) peer (buffer_after o out) (Ok (done_of o))) (omega (arith, p.owed peer id, ap bit (tell (answers id) peer))) sent);
+        owed = λ peer id. omega (arith, p.owed peer id, ap bit (tell (answers id) peer));
+        awaited = λ peer id. omega (arith, ap bit (p.sent peer id), ap bit (p.got peer id), ap bit (tell (invokes id) peer), unlapsed c s r peer id);
+        next = omega arith;
+        fresh = λ peer id e. absurd (false≢true (sym (p.sent peer id) ∙ (sym (tell (invokes id) peer) ∙ e)));
+      }

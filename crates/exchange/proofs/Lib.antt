@@ -4,24 +4,28 @@ mod Searched
 mod Names
 mod Left
 mod Moved
+mod Edge
 mod Invariant
 mod Checks
 mod Steps
 mod Closings
+mod Sizes
+mod Handled
 mod Deliveries
 pub mod Balanced
-pub mod Bench
 mod Shown
 mod Judged
 mod Served
 mod Genuine
 mod Moves
 mod Decided
-mod Lowest
+mod Conditions
+pub mod Bench
 mod Routes
-mod RefutedBalances
+mod RefutedBalance
 mod RefutedMoves
-mod RefutedVerdicts
+mod RefutedGenuine
 mod RefutedRefusals
-mod RefutedReports
+mod RefutedVerdicts
 mod Refuted
+mod AsksLemmas

@@ -4,12 +4,12 @@ use Rattle.std.proofs.lemmas.Bool.{true≢false, both_ways}
 use Rattle.std.proofs.lemmas.Option.{none-some, same_Some}
 use Rattle.exchange.specs.declared.dialogue.Dialogue.{Dialogue}
 use Rattle.exchange.specs.declared.fit_out.FitOut.{FitOut}
-use Rattle.exchange.specs.declared.numbers.OwnNumber.{OwnNumber}
+use Rattle.exchange.specs.declared.invokes.OwnNumber.{OwnNumber}
 use Rattle.exchange.specs.declared.outcome.Done.{Done}
 use Rattle.exchange.specs.declared.service.Service.{Service}
-use Rattle.exchange.specs.Calls.{After}
+use Rattle.exchange.specs.Outcome.{After}
 use Rattle.exchange.specs.Moves.{Opened, WentOn, Closes, HasLeft, IsClock, Moves}
-use Rattle.exchange.specs.Runs.{Call, Entry, invokes, answers, brings, takes, tells, sends_to}
+use Rattle.exchange.specs.Runs.{Call, CallMade, invokes, answers, brings, takes, sends, sends_to}
 use Rattle.exchange.specs.Service.{written}
 use Rattle.exchange.specs.State.{owed_by, is_owed_to}
 use Rattle.exchange.specs.Table.{Has, owes, has_left}
@@ -49,11 +49,11 @@ by_count false false now sent e h = let one = ap bit h in absurd (omega arith)
 
 -- one place is written, and an APDU is sent or not
 module _ (s : Service) (names : Names s) (c : Call) (r : ℕ) (n : OwnNumber) (k : ℕ) (x old : Option Dialogue) (done : Done) (left : List ℕ) (within : k < length s.dialogues) (stands : get_or s.dialogues k None ≡ old) (arrives : Arrives s c x) (departs : Departs c old x) where
-  abbrev entry : Entry
-  entry = record { before = s; call = c; after = record { result = Ok done; service = written s r n k x; buffer = left } }
+  abbrev made : CallMade
+  made = record { before = s; call = c; after = record { result = Ok done; service = written s r n k x; buffer = left } }
 
   -- what has left stood at the place
-  left_here : (d : Dialogue) → HasLeft entry d → get_or s.dialogues k None ≡ Some d
+  left_here : (d : Dialogue) → HasLeft made d → get_or s.dialogues k None ≡ Some d
   left_here d h = ⊎_elim (λ m. absurd (left_none (slice_set s.dialogues k x) d d h.gone m refl)) (λ e. e) (kept s.dialogues k x d h.stood)
 
   closed_by : (o y : Option Dialogue) (d : Dialogue) → Departs c o y → o ≡ Some d → y ≡ x → has_left (slice_set s.dialogues k x) (Some d) ≡ true → Closes c d
@@ -75,13 +75,13 @@ module _ (s : Service) (names : Names s) (c : Call) (r : ℕ) (n : OwnNumber) (k
       both_ways (owes peer id (Some e)) (ap (owes peer id) (sym is) ∙ unowed) still)
       (subst (Arrives s c) is arrives)
 
-  owed_left : (peer id : ℕ) (o : Option Dialogue) → old ≡ o → owes peer id o ≡ true → owes peer id x ≡ false → (d : Dialogue) × HasLeft entry d × (is_owed_to peer id (owed_by d.state) ≡ true)
+  owed_left : (peer id : ℕ) (o : Option Dialogue) → old ≡ o → owes peer id o ≡ true → owes peer id x ≡ false → (d : Dialogue) × HasLeft made d × (is_owed_to peer id (owed_by d.state) ≡ true)
   owed_left peer id None is owed unowed = absurd (true≢false (sym owed))
   owed_left peer id (Some d) is owed unowed =
       let at : At s.dialogues k d = stands ∙ is in
       (d, record { stood = has_at s.dialogues k d at; gone = left_set s names k x d at (other_name peer id d at owed unowed) }, owed)
 
-  pub put_moves : (IsClock c → r ≡ s.last) → ((peer id : ℕ) → bit (brings (invokes id) peer c) + bit (owes peer id old) ≡ bit (tells (answers id) peer left (Ok done)) + bit (owes peer id x)) → Moves s.fit entry
+  pub put_moves : (IsClock c → r ≡ s.last) → ((peer id : ℕ) → bit (brings (invokes id) peer c) + bit (owes peer id old) ≡ bit (sends (answers id) peer left (Ok done)) + bit (owes peer id x)) → Moves s.fit made
   put_moves stays counts = record {
     comes = λ d h. ⊎_elim (λ e. inr (refl, subst (Arrives s c) e arrives)) inl (has_set s.dialogues k x d h);
     goes = λ d h. (refl, closed_by old x d departs (sym stands ∙ left_here d h) refl h.gone);
@@ -89,7 +89,7 @@ module _ (s : Service) (names : Names s) (c : Call) (r : ℕ) (n : OwnNumber) (k
     reading = λ clock d h. stays clock;
     answers = λ peer id sent.
         ⊎_elim inl (λ p. inr (owed_left peer id old refl p.0 p.1))
-        (by_count (brings (invokes id) peer c) (owes peer id old) (owes peer id x) (tells (answers id) peer left (Ok done)) (counts peer id) sent);
+        (by_count (brings (invokes id) peer c) (owes peer id old) (owes peer id x) (sends (answers id) peer left (Ok done)) (counts peer id) sent);
   }
 
 -- where the table is as it was, and an answer is sent only to what was taken

@@ -3,13 +3,13 @@ use Rattle.std.proofs.Common.{◌≡◌, true, List, [], ◌∷◌, refl, ap, �
 use Rattle.std.specs.List.{AllByRecursion}
 use Rattle.algorithm.specs.Meaning.{Meaning}
 use Rattle.exchange.specs.declared.fit_out.FitOut.{FitOut}
-use Rattle.exchange.specs.declared.numbers.OwnNumber.{OwnNumber}
+use Rattle.exchange.specs.declared.invokes.OwnNumber.{OwnNumber}
 use Rattle.exchange.specs.declared.service.Service.{Service}
-use Rattle.exchange.specs.Calls.{After}
-use Rattle.exchange.specs.Entry.{fresh}
+use Rattle.exchange.specs.Outcome.{After}
+use Rattle.exchange.specs.EnterService.{fresh}
 use Rattle.exchange.specs.FitOut.{fitted}
 use Rattle.exchange.specs.Moves.{Moves, Named, AlwaysMoves}
-use Rattle.exchange.specs.Runs.{Call, Given, Entry, called, history}
+use Rattle.exchange.specs.Runs.{Call, Given, CallMade, called, history}
 use Rattle.exchange.specs.Verdicts.{TellsVerdicts, AlwaysTellsVerdicts}
 use Rattle.exchange.proofs.Balanced.{step, start, has}
 use Rattle.exchange.proofs.Invariant.{Fine, Inv, Step}
@@ -25,7 +25,7 @@ moves_run : (fit : FitOut) (cs : List (Meaning × Call)) (s : Service) → s.fit
 moves_run fit [] s same inv given = tt
 moves_run fit ((m, c) ∷ cs) s same inv given =
     let a = step m given.0.0 s inv c given.0.1 in
-    let e : Entry = record { before = s; call = c; after = called m s c } in
+    let e : CallMade = record { before = s; call = c; after = called m s c } in
     ((subst (λ (f : FitOut). Moves f e) same a.moves, named_step s c (called m s c) a), moves_run fit cs (called m s c).service (a.fit ∙ same) a.inv given.1)
 
 pub always_moves : (f : FitOut) → fitted f ≡ true → AlwaysMoves (fresh f)

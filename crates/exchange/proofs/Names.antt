@@ -6,7 +6,7 @@ use Rattle.exchange.specs.declared.fit_out.FitOut.{FitOut}
 use Rattle.exchange.specs.declared.state.State.{State}
 use Rattle.exchange.specs.declared.state.State.TheVariants.{FetchingForInitiation, Initiating, FetchingForVisitor, Requesting, Executing, RequestingProof, FetchingProof}
 use Rattle.exchange.specs.declared.service.Service.{Service}
-use Rattle.exchange.specs.Entry.{fresh}
+use Rattle.exchange.specs.EnterService.{fresh}
 
 -- a dialogue stands at a place
 abbrev pub At : List (Option Dialogue) → ℕ → Dialogue → Type 0

@@ -3,8 +3,8 @@ use Rattle.std.proofs.Common.{◌≡◌, ℕ, ◌+◌, ◌≤◌, ◌<◌, ◌�
 use Rattle.std.proofs.lemmas.Option.{none-some}
 use Rattle.apdu.specs.declared.apdus.WtatInfo.TheVariants as info
 use Rattle.exchange.specs.declared.dialogue.Dialogue.{Dialogue}
-use Rattle.exchange.specs.declared.numbers.Owed.{Owed}
-use Rattle.exchange.specs.declared.numbers.OwnNumber.{OwnNumber}
+use Rattle.exchange.specs.declared.invokes.Owed.{Owed}
+use Rattle.exchange.specs.declared.invokes.OwnNumber.{OwnNumber}
 use Rattle.exchange.specs.declared.service.Service.{Service}
 use Rattle.exchange.specs.declared.state.State.TheVariants.{Initiating, Requesting, Executing}
 use Rattle.exchange.specs.Examples.{home, visitor_peer, asker, example_fit_out, buffer, first}

@@ -2,7 +2,7 @@
 use Rattle.std.proofs.Common.{◌≡◌, ◌<◌, [], ◌∷◌, Some, inl, sym, refl, ap, arith}
 use Rattle.std.proofs.lemmas.Bool.{both_ways}
 use Rattle.refusal.specs.declared.Refusal.TheVariants.{ShortSheet, ClockBack, Misdialled, Garbled, Stray, Twice, Full, Spent}
-use Rattle.apdu.proofs.Options.{ok_same}
+use Rattle.wire.proofs.Options.{ok_same}
 use Rattle.apdu.specs.declared.apdus.Apdu.{Apdu}
 use Rattle.exchange.specs.declared.dialogue.Dialogue.{Dialogue}
 use Rattle.exchange.specs.declared.state.State.TheVariants.{Executing}

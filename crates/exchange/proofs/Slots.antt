@@ -2,9 +2,8 @@
 use Rattle.std.proofs.Common.{◌≡◌, ℕ, zero, suc, ◌≤◌, ◌⊎◌, List, [], ◌∷◌, length, Some, None, Option, sum_by, slice_set, get_or, inl, inr, ⊎_elim, arith}
 use Rattle.std.proofs.lemmas.List.{length-set}
 use Rattle.std.proofs.lemmas.List.Sums.{sum_by-cons}
-use Rattle.users.specs.declared.UserNumber.{UserNumber}
+use Rattle.values.specs.declared.user.User.{User}
 use Rattle.exchange.specs.declared.dialogue.Dialogue.{Dialogue}
-use Rattle.exchange.specs.Service.{CanGoOn}
 use Rattle.exchange.specs.State.{named_in}
 use Rattle.exchange.specs.Table.{Has, one_more, to_take}
 
@@ -14,17 +13,13 @@ has_set [] i y d h = absurd h
 has_set (x ∷ xs) zero y d h = ⊎_elim inl (λ m. inr (inr m)) h
 has_set (x ∷ xs) (suc i) y d h = ⊎_elim (λ e. inr (inl e)) (λ m. ⊎_elim inl (λ k. inr (inr k)) (has_set xs i y d m)) h
 
--- each can be carried on
-pub able_set : (xs : List (Option Dialogue)) (i : ℕ) (y : Option Dialogue) → ((d : Dialogue) → y ≡ Some d → CanGoOn d.state) → ((d : Dialogue) → Has d xs → CanGoOn d.state) → (d : Dialogue) → Has d (slice_set xs i y) → CanGoOn d.state
-able_set xs i y now before d h = ⊎_elim (now d) (before d) (has_set xs i y d h)
-
 -- what stands at a place is in the table
 pub has_at : (xs : List (Option Dialogue)) (i : ℕ) (d : Dialogue) → get_or xs i None ≡ Some d → Has d xs
 has_at [] i d e = cc
 has_at (x ∷ xs) zero d e = inl e
 has_at (x ∷ xs) (suc i) d e = inr (has_at xs i d e)
 
-one_at_most : (o : Option UserNumber) → one_more o ≤ 1
+one_at_most : (o : Option User) → one_more o ≤ 1
 one_at_most None = omega arith
 one_at_most (Some user) = omega arith
 

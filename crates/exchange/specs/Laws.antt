@@ -1,7 +1,7 @@
 -- Which dialogue the clock closes, said of the whole table.
 use Rattle.std.specs.Prelude.{◌≡◌, ℕ, ◌<◌, ◌≤◌, ◌⊎◌, List, Some, None, Ok, Err, Option, Result}
 use Rattle.refusal.specs.declared.Refusal.{Refusal}
-use Rattle.exchange.specs.declared.numbers.Owed.{Owed}
+use Rattle.exchange.specs.declared.invokes.Owed.{Owed}
 use Rattle.exchange.specs.declared.dialogue.Dialogue.{Dialogue}
 use Rattle.exchange.specs.declared.outcome.Done.{Done}
 use Rattle.exchange.specs.declared.outcome.Done.TheVariants.{Quiet, Sent, Reported}
@@ -19,7 +19,9 @@ NoneEnded reading slots = (e : Dialogue) → Has e slots → reading < e.ends
 
 -- d's timer has ended by the reading, and no dialogue of the table ends before d
 abbrev pub EndsFirst : ℕ → List (Option Dialogue) → Dialogue → Type 0
-EndsFirst reading slots d = Has d slots × (d.ends ≤ reading) × ((e : Dialogue) → Has e slots → ¬ (EndsBefore e d))
+EndsFirst reading slots d =
+    Has d slots × (d.ends ≤ reading)
+    × ((e : Dialogue) → Has e slots → ¬ (EndsBefore e d))
 
 -- what clock tells when it closes d: what is owed is answered, and otherwise d is reported
 abbrev pub Tells : Dialogue → Done → Type 0

@@ -1,14 +1,14 @@
 -- What a state awaits, what it owes, and its timer.
 use Rattle.std.specs.Prelude.{ℕ, ◌+◌, Bool, true, false, ◌&&◌, Some, None, Option, ◌==◌}
-use Rattle.exchange.specs.declared.numbers.Asked.{Asked}
-use Rattle.exchange.specs.declared.numbers.Owed.{Owed}
+use Rattle.exchange.specs.declared.invokes.Asked.{Asked}
+use Rattle.exchange.specs.declared.invokes.Owed.{Owed}
 use Rattle.exchange.specs.declared.state.State.{State}
 use Rattle.exchange.specs.declared.state.State.TheVariants.{FetchingForInitiation, Initiating, FetchingForVisitor, Requesting, Executing, RequestingProof, FetchingProof}
 use Rattle.exchange.specs.declared.fit_out.FitOut.{FitOut}
 use Rattle.exchange.specs.declared.fit_out.Timer.{Timer}
 use Rattle.exchange.specs.declared.fit_out.Timer.TheVariants.{T1, T2, T3, T4, T5, Tr}
 use Rattle.exchange.specs.FitOut.{duration}
-use Rattle.users.specs.declared.UserNumber.{UserNumber}
+use Rattle.values.specs.declared.user.User.{User}
 
 -- the timer that runs in a state
 abbrev pub timer_of : State → Timer
@@ -58,6 +58,6 @@ is_at_terminal (Executing owed expected) = true
 is_at_terminal s = false
 
 -- the user whom a later invoke names, where there will be one more invoke
-abbrev pub named_in : State → Option UserNumber
+abbrev pub named_in : State → Option User
 named_in (FetchingForInitiation asked user peer) = Some user
 named_in s = None

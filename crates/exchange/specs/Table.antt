@@ -1,10 +1,10 @@
 -- The places for dialogues.
-use Rattle.std.specs.Prelude.{◌≡◌, ℕ, ◌+◌, ◌⊎◌, Bool, true, false, cond, not, ◌&&◌, ◌||◌, List, [], ◌∷◌, Some, None, Option, ◌==◌, nat_le, nat_lt, position, slice_index_or}
+use Rattle.std.specs.Prelude.{◌≡◌, ℕ, ◌+◌, ◌⊎◌, Bool, true, false, if◌then◌else◌, not, ◌&&◌, ◌||◌, List, [], ◌∷◌, Some, None, Option, ◌==◌, nat_le, nat_lt, position, slice_index_or}
 use Rattle.std.specs.List.{list_any}
 use Rattle.std.specs.Option.{option_map}
-use Rattle.users.specs.declared.UserNumber.{UserNumber}
+use Rattle.values.specs.declared.user.User.{User}
 use Rattle.exchange.specs.declared.dialogue.Dialogue.{Dialogue}
-use Rattle.exchange.specs.declared.numbers.OwnNumber.{OwnNumber}
+use Rattle.exchange.specs.declared.invokes.OwnNumber.{OwnNumber}
 use Rattle.exchange.specs.State.{owed_by, asked_by, is_owed_to, is_asked_of, is_at_terminal, named_in}
 
 -- a dialogue stands in one of the places
@@ -21,6 +21,7 @@ ends_by reading (Some d) = nat_le d.ends reading
 abbrev pub due : ℕ → List (Option Dialogue) → Bool
 due reading slots = list_any (ends_by reading) slots
 
+-- no dialogue stands at a place
 abbrev pub is_free : Option Dialogue → Bool
 is_free None = true
 is_free (Some d) = false
@@ -33,16 +34,22 @@ free_place slots = position is_free slots
 abbrev pub ends_before : Dialogue → Dialogue → Bool
 ends_before a b = nat_lt a.ends b.ends || (a.ends == b.ends && nat_lt a.name.0 b.name.0)
 
+-- d has ended by the reading, and before the best so far
+abbrev pub ends_first : ℕ → Dialogue → Option (ℕ × Dialogue) → Bool
+ends_first reading d None = nat_le d.ends reading
+ends_first reading d (Some (j, b)) = nat_le d.ends reading && ends_before d b
+
 -- of what stands at place i and the best so far, the one that ends first
-abbrev pub first_of_two : ℕ → Option Dialogue → Option (ℕ × Dialogue) → Option (ℕ × Dialogue)
-first_of_two i None best = best
-first_of_two i (Some d) None = Some (i, d)
-first_of_two i (Some d) (Some (j, b)) = cond (ends_before d b) (Some (i, d)) (Some (j, b))
+abbrev pub better : ℕ → ℕ → Option Dialogue → Option (ℕ × Dialogue) → Option (ℕ × Dialogue)
+better reading i None best = best
+better reading i (Some d) best = if ends_first reading d best then Some (i, d) else best
 
 -- the first to end of those from place i on that have ended, and the best so far
-abbrev pub first_to_end_from : ℕ → ℕ → Option (ℕ × Dialogue) → List (Option Dialogue) → Option (ℕ × Dialogue)
+abbrev pub first_to_end_from :
+    ℕ → ℕ → Option (ℕ × Dialogue) → List (Option Dialogue) → Option (ℕ × Dialogue)
 first_to_end_from reading i best [] = best
-first_to_end_from reading i best (s ∷ ss) = first_to_end_from reading (i + 1) (cond (ends_by reading s) (first_of_two i s best) best) ss
+first_to_end_from reading i best (s ∷ ss) =
+    first_to_end_from reading (i + 1) (better reading i s best) ss
 
 -- of the dialogues whose timer ends at or before the reading, the one whose timer ends first, and its place
 abbrev pub first_to_end : ℕ → List (Option Dialogue) → Option (ℕ × Dialogue)
@@ -73,10 +80,11 @@ abbrev pub found : (Option Dialogue → Bool) → List (Option Dialogue) → Opt
 found test slots = standing_at slots (position test slots)
 
 -- how many numbers a dialogue with this user to name may still take
-abbrev pub one_more : Option UserNumber → ℕ
+abbrev pub one_more : Option User → ℕ
 one_more None = 0
 one_more (Some user) = 1
 
+-- how many numbers what stands at a place may still take
 abbrev pub to_take : Option Dialogue → ℕ
 to_take None = 0
 to_take (Some d) = one_more (named_in d.state)

@@ -9,7 +9,7 @@ use Rattle.exchange.specs.declared.outcome.Done.TheVariants.{Reported}
 use Rattle.exchange.specs.declared.outcome.Report.TheVariants as report
 use Rattle.exchange.specs.declared.service.Service.{Service}
 use Rattle.exchange.specs.Genuine.{verdict_in, said_to, said_by}
-use Rattle.exchange.specs.Runs.{Call, Reply, Given, Machine, Entry, called, history}
+use Rattle.exchange.specs.Runs.{Call, Reply, Given, Machine, CallMade, called, history}
 
 -- a call to reply
 abbrev pub IsReply : Call → Type 0
@@ -22,13 +22,18 @@ verdict_reported (Ok (Reported name (report.Verdict v))) = Some v
 verdict_reported r = None
 
 -- a verdict is sent only on a reply, and is reported only on one, or as the result of authWtmUser that was delivered says it
-pub record TellsVerdicts (e : Entry) : Type 0 where
+pub record TellsVerdicts (e : CallMade) : Type 0 where
   pub sent : (v : Verdict) → said_by verdict_in e.after ≡ Some v → IsReply e.call
-  pub reported : (v : Verdict) → verdict_reported e.after.result ≡ Some v → IsReply e.call ⊎ (said_to verdict_in e.call ≡ Some v)
+  pub reported : (v : Verdict)
+      → verdict_reported e.after.result ≡ Some v
+      → IsReply e.call ⊎ (said_to verdict_in e.call ≡ Some v)
 
 -- at every call, done or refused, of every list of calls
 abbrev pub VerdictsBy : Machine → Service → Type 0
-VerdictsBy does s = (calls : List (Meaning × Call)) → AllByRecursion Given calls → AllByRecursion TellsVerdicts (history does s calls)
+VerdictsBy does s =
+    (calls : List (Meaning × Call)) → AllByRecursion Given calls
+    → AllByRecursion TellsVerdicts (history does s calls)
 
+-- of an exchange that is called
 abbrev pub AlwaysTellsVerdicts : Service → Type 0
 AlwaysTellsVerdicts s = VerdictsBy called s

@@ -1,42 +1,49 @@
 // The calls of an exchange in service.
-ghost use Rattle.std.specs.Prelude.{◌≡◌, ◌^◌, ◌<◌, ◌≤◌, true, length, IfOk, Ok};
-ghost use Rattle.apdu.specs.Encode.{encode, is_right, invoke_right};
-ghost use Rattle.users.specs.Users.{is_user};
-ghost use Rattle.apdu.specs.Fronts.{front};
+ghost use Rattle.std.specs.Prelude.{◌≡◌, ◌<◌, ◌≤◌, length, OnOk};
+ghost use Rattle.std.specs.Option.{ok_or};
+ghost use Rattle.refusal.specs.declared.Refusal.TheVariants.{Misdialled};
+ghost use Rattle.apdu.specs.Encode.{least_buffer};
 ghost use Rattle.directory.specs.Contents.{contents};
 ghost use Rattle.algorithm.specs.Meaning.{Meaning};
-ghost use Rattle.exchange.specs.Service.{CanGoOn, closed};
-ghost use Rattle.exchange.specs.Calls.{user_of, dialled, challenge_of, asks, CanTell, told, Unchanged};
-ghost use Rattle.exchange.specs.Runs.{PlainInitiation, InitiationWithValues, VisitorStart, NetworkProof, Clock, called};
+ghost use Rattle.exchange.specs.Calls.{user_check, dialled_check, challenge_check, asks};
 ghost use Rattle.exchange.specs.Laws.{Earliest};
+ghost use Rattle.exchange.specs.Outcome.{Unchanged, buffer_check};
+ghost use Rattle.exchange.specs.Runs.{PlainInitiation, InitiationWithValues, VisitorStart, NetworkProof, Clock, called};
+ghost use Rattle.exchange.specs.Bounds.{highest_reading, last_opening, most_dialogues};
 
-use crate::dialogue::{Event, Notice, Step};
+use crate::dialogue::{Event, Step};
 use crate::in_service::Exchange;
-use crate::numbers::OwnNumber;
-use crate::outcome::Done;
+use crate::outcome::{Done, Outcome};
 use crate::state::State;
 use algorithm::Algorithm;
-use apdu::{Apdu, AuthWtmArg, Body, Challenge, Invoke, UserNumber, WtanParamArg, WtatParamArg};
+use apdu::{Apdu, Body, Invoke, LEAST_BUFFER, Request, WtanParamArg, WtatParamArg};
 use directory::Directory;
 use entries::{Link, is_link};
 use refusal::Refusal;
+use values::{Challenge, User};
+use wire::Provider;
+
+// The buffer that is lent has room for every APDU.
+pub(crate) fn check_buffer(out: &[u8]) -> Result<(), Refusal>
+    ensures value { result ≡ buffer_check (length out.now) }
+    ensures passed { OnOk result (least_buffer ≤ length out.now) }
+{
+    if out.len() < LEAST_BUFFER {
+        return Err(Refusal::ShortSheet);
+    }
+    Ok(())
+}
 
 // The user of a request.
-fn check_user(digits: &[u8]) -> Result<UserNumber, Refusal>
-    ensures value { result ≡ user_of digits.now }
-    ensures lawful { IfOk result (λ u. is_user u ≡ true) }
+fn check_user(digits: &[u8]) -> Result<User, Refusal>
+    ensures { result ≡ user_check digits.now }
 {
-    UserNumber::from_digits(digits).ok_or(Refusal::Misdialled)
+    User::from_digits(digits).ok_or(Refusal::Misdialled)
 }
 
 // The user of an initiation, whose peer has to be a link.
-fn check_dialled(
-    digits: &[u8],
-    peer: u8,
-    links: &Directory<'_, Link>,
-) -> Result<UserNumber, Refusal>
-    ensures value { result ≡ dialled digits.now peer (contents links.now) }
-    ensures lawful { IfOk result (λ u. is_user u ≡ true) }
+fn check_dialled(digits: &[u8], peer: u8, links: &Directory<'_, Link>) -> Result<User, Refusal>
+    ensures { result ≡ dialled_check digits.now peer (contents links.now) }
 {
     let user = check_user(digits)?;
     if !is_link(links, peer) {
@@ -47,71 +54,28 @@ fn check_dialled(
 
 // A terminal's challenge.
 fn check_challenge(challenge: &[u8]) -> Result<Challenge, Refusal>
-    ensures { result ≡ challenge_of challenge.now }
+    ensures { result ≡ challenge_check challenge.now }
 {
-    challenge.try_into().or(Err(Refusal::Misdialled))
-}
-
-// Writes an APDU to the front of the buffer.
-pub(crate) fn write_apdu(apdu: &Apdu, out: &mut [u8]) -> usize
-    requires size { 64 ≤ length out.old }
-    requires right { is_right apdu.now ≡ true }
-    ensures value { result ≡ length (encode apdu.now) }
-    ensures buffer { out.new ≡ front (encode apdu.now) out.old }
-{
-    apdu::write(apdu, out).unwrap()
+    Challenge::from_bytes(challenge).ok_or(Refusal::Misdialled)
 }
 
 impl Exchange {
-    // Opens a dialogue under the next number and sends its invoke to a peer.
-    fn ask(
-        &mut self,
-        reading: u64,
-        place: usize,
-        state: State,
-        peer: u8,
-        invoke: Invoke,
-        out: &mut [u8],
-    ) -> Done
-        requires place { place < 32 }
-        requires time { reading ≤ 2 ^ 40 }
-        requires number { self.old.service.next.0 ≤ 60000 }
-        requires able { CanGoOn state }
-        requires size { 64 ≤ length out.old }
-        requires right { invoke_right invoke ≡ true }
-        ensures { record { result = Ok result; service = self.new.service; buffer = out.new } ≡ asks self.old.service reading place (λ asked. state) peer invoke out.old }
+    // Opens a dialogue under the next number, and its invoke goes to a peer.
+    fn ask(&mut self, reading: u64, place: usize, state: State, peer: u8, invoke: Invoke) -> Outcome
+        requires place { place < most_dialogues }
+        requires time { reading ≤ highest_reading }
+        requires number { self.old.next.0 ≤ last_opening }
+        ensures { (result, self.new) ≡ asks self.old reading place state peer invoke }
     {
-        let OwnNumber(id) = self.service.next;
+        let id = self.service.next.invoke_id();
         self.open_dialogue(reading, place, state);
-        let body = Body::Invoke(invoke);
-        let size = write_apdu(&Apdu { id, body }, out);
-        Done::Sent { peer, size }
-    }
-
-    // Tells what a step came to.
-    pub(crate) fn tell(&self, name: OwnNumber, notice: Notice, out: &mut [u8]) -> Done
-        requires size { 64 ≤ length out.old }
-        requires right { CanTell notice }
-        ensures { record { result = Ok result; service = self.now.service; buffer = out.new } ≡ told self.now.service name notice out.old }
-    {
-        match notice {
-            Notice::Report(report) => Done::Reported { name, report },
-            Notice::Send { peer, apdu } => {
-                let size = write_apdu(&apdu, out);
-                Done::Sent { peer, size }
-            }
+        Outcome::Send {
+            peer,
+            apdu: Apdu {
+                id,
+                body: Body::Invoke(invoke),
+            },
         }
-    }
-
-    // Closes the dialogue at a place, and tells what its step came to.
-    fn close(&mut self, place: usize, name: OwnNumber, notice: Notice, out: &mut [u8]) -> Done
-        requires place { place < 32 }
-        requires size { 64 ≤ length out.old }
-        requires right { CanTell notice }
-        ensures { record { result = Ok result; service = self.new.service; buffer = out.new } ≡ told (closed self.old.service place) name notice out.old }
-    {
-        self.write(self.service.last, self.service.next, place, None);
-        self.tell(name, notice, out)
     }
 
     /// Asks a peer to authenticate a user: authWtmUser goes to it without a unit. `reading` is in milliseconds; `digits` are
@@ -127,16 +91,21 @@ impl Exchange {
         links: &Directory<'_, Link>,
         out: &mut [u8],
     ) -> Result<Done, Refusal>
-        ensures value { (m : Meaning) → record { result = result; service = self.new.service; buffer = out.new } ≡ called m self.old.service (PlainInitiation reading digits.now peer (contents links.now) out.old) }
-        ensures unchanged { Unchanged result self.old.service self.new.service out.old out.new }
+        ensures value { (m : Meaning) →
+            record { result = result; service = self.new; buffer = out.new }
+            ≡ called m self.old
+            (PlainInitiation reading digits.now peer (contents links.now) out.old) }
+        ensures unchanged { Unchanged result self.old self.new out.old out.new }
     {
-        self.service.check_ready(reading, out.len())?;
+        check_buffer(out)?;
+        self.service.check_ready(reading)?;
         let user = check_dialled(digits, peer, links)?;
         let place = self.service.check_room()?;
         let asked = self.service.next.asking(peer);
         let state = State::Initiating { asked };
-        let invoke = Invoke::AuthWtmUser(AuthWtmArg { user, unit: None });
-        Ok(self.ask(reading, place, state, peer, invoke, out))
+        let request = Request::AuthWtmUser(None);
+        let outcome = self.ask(reading, place, state, peer, Invoke { user, request });
+        Ok(outcome.write(out))
     }
 
     /// Asks the server for a unit, by wtatParamEnq; once it has come, authWtmUser brings it to the peer. What is given, and
@@ -149,21 +118,26 @@ impl Exchange {
         links: &Directory<'_, Link>,
         out: &mut [u8],
     ) -> Result<Done, Refusal>
-        ensures value { (m : Meaning) → record { result = result; service = self.new.service; buffer = out.new } ≡ called m self.old.service (InitiationWithValues reading digits.now peer (contents links.now) out.old) }
-        ensures unchanged { Unchanged result self.old.service self.new.service out.old out.new }
+        ensures value { (m : Meaning) →
+            record { result = result; service = self.new; buffer = out.new }
+            ≡ called m self.old
+            (InitiationWithValues reading digits.now peer (contents links.now) out.old) }
+        ensures unchanged { Unchanged result self.old self.new out.old out.new }
     {
-        self.service.check_ready(reading, out.len())?;
+        check_buffer(out)?;
+        self.service.check_ready(reading)?;
         let user = check_dialled(digits, peer, links)?;
         let place = self.service.check_room()?;
         let server = self.service.fit.server;
         let asked = self.service.next.asking(server);
         let state = State::FetchingForInitiation { asked, user, peer };
-        let invoke = Invoke::WtatParamEnq(WtatParamArg {
-            user,
-            challenge: None,
+        let arg = WtatParamArg {
             computes: false,
-        });
-        Ok(self.ask(reading, place, state, server, invoke, out))
+            challenge: None,
+        };
+        let request = Request::WtatParam(Provider::Server, arg);
+        let outcome = self.ask(reading, place, state, server, Invoke { user, request });
+        Ok(outcome.write(out))
     }
 
     /// Begins to authenticate a user who is visiting: asks Home for a unit by getWtatParam, or for a session where this
@@ -174,10 +148,13 @@ impl Exchange {
         digits: &[u8],
         out: &mut [u8],
     ) -> Result<Done, Refusal>
-        ensures value { (m : Meaning) → record { result = result; service = self.new.service; buffer = out.new } ≡ called m self.old.service (VisitorStart reading digits.now out.old) }
-        ensures unchanged { Unchanged result self.old.service self.new.service out.old out.new }
+        ensures value { (m : Meaning) →
+            record { result = result; service = self.new; buffer = out.new }
+            ≡ called m self.old (VisitorStart reading digits.now out.old) }
+        ensures unchanged { Unchanged result self.old self.new out.old out.new }
     {
-        self.service.check_ready(reading, out.len())?;
+        check_buffer(out)?;
+        self.service.check_ready(reading)?;
         let user = check_user(digits)?;
         let place = self.service.check_room()?;
         let home = self.service.fit.home;
@@ -188,12 +165,13 @@ impl Exchange {
             owed: None,
             computes,
         };
-        let invoke = Invoke::GetWtatParam(WtatParamArg {
-            user,
-            challenge: None,
+        let arg = WtatParamArg {
             computes,
-        });
-        Ok(self.ask(reading, place, state, home, invoke, out))
+            challenge: None,
+        };
+        let request = Request::WtatParam(Provider::Home, arg);
+        let outcome = self.ask(reading, place, state, home, Invoke { user, request });
+        Ok(outcome.write(out))
     }
 
     /// Proves the network to a user's terminal: asks Home by getWtanParam, under the algorithm's number, for the response to
@@ -208,10 +186,13 @@ impl Exchange {
         algorithm: &A,
         out: &mut [u8],
     ) -> Result<Done, Refusal>
-        ensures value { record { result = result; service = self.new.service; buffer = out.new } ≡ called (A.meaning algorithm.now) self.old.service (NetworkProof reading digits.now challenge.now out.old) }
-        ensures unchanged { Unchanged result self.old.service self.new.service out.old out.new }
+        ensures value { record { result = result; service = self.new; buffer = out.new }
+            ≡ called (A.meaning algorithm.now) self.old
+            (NetworkProof reading digits.now challenge.now out.old) }
+        ensures unchanged { Unchanged result self.old self.new out.old out.new }
     {
-        self.service.check_ready(reading, out.len())?;
+        check_buffer(out)?;
+        self.service.check_ready(reading)?;
         let user = check_user(digits)?;
         let challenge = check_challenge(challenge)?;
         let place = self.service.check_room()?;
@@ -223,13 +204,14 @@ impl Exchange {
             computes,
             challenge,
         };
-        let invoke = Invoke::GetWtanParam(WtanParamArg {
-            user,
+        let arg = WtanParamArg {
             computes,
             challenge,
             algorithm: algorithm.number(),
-        });
-        Ok(self.ask(reading, place, state, home, invoke, out))
+        };
+        let request = Request::WtanParam(Provider::Home, arg);
+        let outcome = self.ask(reading, place, state, home, Invoke { user, request });
+        Ok(outcome.write(out))
     }
 
     /// Closes the dialogue whose timer ends first, the lowest name on a tie, if it has ended by this reading: what it owes
@@ -243,21 +225,24 @@ impl Exchange {
         algorithm: &mut A,
         out: &mut [u8],
     ) -> Result<Done, Refusal>
-        ensures value { record { result = result; service = self.new.service; buffer = out.new } ≡ called (A.meaning algorithm.old) self.old.service (Clock reading out.old) }
+        ensures value { record { result = result; service = self.new; buffer = out.new }
+            ≡ called (A.meaning algorithm.old) self.old (Clock reading out.old) }
         ensures unasked { algorithm.new ≡ algorithm.old }
-        ensures unchanged { Unchanged result self.old.service self.new.service out.old out.new }
-        ensures earliest { Earliest self.old.service reading result }
+        ensures unchanged { Unchanged result self.old self.new out.old out.new }
+        ensures earliest { Earliest self.old reading result }
     {
-        self.service.check_time(reading, out.len())?;
+        check_buffer(out)?;
+        self.service.check_time(reading)?;
         let Some((place, mut dialogue)) = self.service.first_to_end(reading) else {
             self.service.last = reading;
             return Ok(Done::Quiet);
         };
         let next = self.service.next;
-        let step = dialogue.step(Event::Expiry, reading, next, &self.service.fit, algorithm);
-        let Step::Closes(notice) = step else {
+        let step = dialogue.step(&Event::Expiry, reading, next, &self.service.fit, algorithm);
+        let Step::Closes(outcome) = step else {
             unreachable!()
         };
-        Ok(self.close(place, dialogue.name, notice, out))
+        self.set_place(self.service.last, next, place, None);
+        Ok(outcome.write(out))
     }
 }

@@ -1,52 +1,47 @@
 // Deliveries and replies.
-ghost use Rattle.std.specs.Prelude.{◌≡◌, ◌^◌, ◌<◌, ◌≤◌, true, length, Some, None, IfSome, IfOk, OnErr, Ok, Err, slice_index_or};
+ghost use Rattle.std.specs.Prelude.{◌≡◌, ◌<◌, ◌≤◌, length, None, IfSome, OnErr, slice_index_or};
 ghost use Rattle.wire.specs.Codes.{problem_number};
-ghost use Rattle.apdu.specs.Encode.{body_right};
-ghost use Rattle.apdu.specs.Laws.{Lawful};
 ghost use Rattle.apdu.specs.declared.apdus.Body.TheVariants as body;
 ghost use Rattle.directory.specs.Contents.{contents};
 ghost use Rattle.exchange.specs.declared.handling.Handling.TheVariants.{Answer};
-ghost use Rattle.exchange.specs.Able.{CanMove, CanDo, BringsResult};
-ghost use Rattle.exchange.specs.Calls.{Unchanged};
-ghost use Rattle.exchange.specs.Deliver.{moved, met, answer_sent, carried_out, came, received, delivery_check, response_of};
+ghost use Rattle.exchange.specs.Able.{CanMove, BringsResult};
+ghost use Rattle.exchange.specs.Asks.{DecidedAlike};
+ghost use Rattle.exchange.specs.Calls.{response_check};
+ghost use Rattle.exchange.specs.Deliver.{draw_check, moved, met, answer_sent, carried_out, taken, answer_taken, came, received};
+ghost use Rattle.exchange.specs.Outcome.{leaving, Unchanged};
 ghost use Rattle.exchange.specs.Runs.{Delivery, Reply, called};
-ghost use Rattle.exchange.specs.Server.{handled, subscriber_for, invoke_user};
-ghost use Rattle.exchange.specs.Service.{by};
+ghost use Rattle.exchange.specs.Bounds.{highest_reading, most_dialogues};
 ghost use Rattle.exchange.specs.Table.{to_take, standing_at};
 
-use crate::calls::write_apdu;
+use crate::calls::check_buffer;
 use crate::dialogue::{Dialogue, Event, Step};
 use crate::handling::Handling;
 use crate::in_service::Exchange;
-use crate::numbers::{Owed, OwnNumber, PeerInvokeId};
-use crate::outcome::Done;
-use crate::server::{Draw, challenge_half, handle, invoke_user};
+use crate::invokes::{Owed, OwnNumber, PeerInvokeId};
+use crate::outcome::{Done, Outcome};
+use crate::server::handle;
 use crate::service::Service;
 use algorithm::Algorithm;
-use apdu::{Apdu, Body, Invoke, NoApdu, Response};
+use apdu::{Apdu, Body, Invoke, NoApdu};
 use directory::Directory;
 use entries::{Link, Subscriber, is_link};
 use refusal::Refusal;
+use values::{Draw, InvokeId, Response};
 use wire::{ErrorCode, Problem};
 
 // The draw for a delivery, whose peer has to be a link.
-fn check_delivery<'a>(
-    links: &Directory<'_, Link>,
-    peer: u8,
-    draw: &'a [u8],
-) -> Result<&'a Draw, Refusal>
-    ensures value { by result (λ d. Ok tt) Err ≡ delivery_check (contents links.now) peer draw.now }
-    ensures same { IfOk result (λ d. d.now ≡ draw.now) }
+fn check_draw(links: &Directory<'_, Link>, peer: u8, draw: &[u8]) -> Result<Draw, Refusal>
+    ensures { result ≡ draw_check (contents links.now) peer draw.now }
 {
     if !is_link(links, peer) {
         return Err(Refusal::Misdialled);
     }
-    draw.try_into().or(Err(Refusal::Misdialled))
+    Draw::from_bytes(draw).ok_or(Refusal::Misdialled)
 }
 
 // What a terminal replied.
 fn check_response(response: &[u8]) -> Result<Response, Refusal>
-    ensures { result ≡ response_of response.now }
+    ensures { result ≡ response_check response.now }
 {
     response.try_into().or(Err(Refusal::Misdialled))
 }
@@ -57,100 +52,145 @@ impl Exchange {
         &mut self,
         reading: u64,
         place: usize,
-        name: OwnNumber,
         step: Step,
         dialogue: Dialogue,
-        out: &mut [u8],
-    ) -> Result<Done, Refusal>
-        requires place { place < 32 }
-        requires size { 64 ≤ length out.old }
-        requires able { CanMove (to_take (slice_index_or self.old.service.dialogues place None)) (step, dialogue) }
-        ensures value { record { result = result; service = self.new.service; buffer = out.new } ≡ moved self.old.service reading place name (step, dialogue) out.old }
-        ensures unchanged { Unchanged result self.old.service self.new.service out.old out.new }
+    ) -> Result<Outcome, Refusal>
+        requires place { place < most_dialogues }
+        requires able { CanMove (to_take (slice_index_or self.old.dialogues place None))
+            (step, dialogue) }
+        ensures value { (result, self.new)
+            ≡ leaving self.old (moved self.old reading place (step, dialogue)) }
     {
         let next = self.service.next;
-        let (next, slot, notice) = match step {
+        let (next, slot, outcome) = match step {
             Step::Stray => return Err(Refusal::Stray),
-            Step::GoesOn(notice) => (next, Some(dialogue), notice),
-            Step::AsksAgain(notice) => (next.following(), Some(dialogue), notice),
-            Step::Closes(notice) => (next, None, notice),
+            Step::GoesOn(outcome) => (next, Some(dialogue), outcome),
+            Step::AsksAgain(outcome) => (next.following(), Some(dialogue), outcome),
+            Step::Closes(outcome) => (next, None, outcome),
         };
-        self.write(reading, next, place, slot);
-        Ok(self.tell(name, notice, out))
+        self.set_place(reading, next, place, slot);
+        Ok(outcome)
     }
 
     // An event comes to the dialogue at the place that was found, if there is one.
     fn meet<A: Algorithm>(
         &mut self,
         reading: u64,
-        event: Event,
+        event: &Event,
         place: Option<usize>,
         algorithm: &mut A,
-        out: &mut [u8],
-    ) -> Result<Done, Refusal>
-        requires time { reading ≤ 2 ^ 40 }
-        requires size { 64 ≤ length out.old }
-        requires within { IfSome place (λ i. i < length self.old.service.dialogues) }
-        ensures value { record { result = result; service = self.new.service; buffer = out.new } ≡ met (A.meaning algorithm.old) self.old.service reading event out.old (standing_at self.old.service.dialogues place) }
+    ) -> Result<Outcome, Refusal>
+        requires time { reading ≤ highest_reading }
+        requires within { IfSome place (λ i. i < length self.old.dialogues) }
+        ensures value { (result, self.new)
+            ≡ leaving self.old
+            (met (A.meaning algorithm.old) self.old reading event.now
+            (standing_at self.old.dialogues place)) }
         ensures same { A.meaning algorithm.new ≡ A.meaning algorithm.old }
         ensures refused { OnErr result (algorithm.new ≡ algorithm.old) }
-        ensures unasked { ¬ (BringsResult event) → algorithm.new ≡ algorithm.old }
-        ensures unchanged { Unchanged result self.old.service self.new.service out.old out.new }
+        ensures unasked { ¬ (BringsResult event.now) → algorithm.new ≡ algorithm.old }
     {
         let Some((place, mut dialogue)) = self.service.standing_at(place) else {
             return Err(Refusal::Stray);
         };
-        let name = dialogue.name;
         let next = self.service.next;
         let step = dialogue.step(event, reading, next, &self.service.fit, algorithm);
-        self.make_move(reading, place, name, step, dialogue, out)
+        self.make_move(reading, place, step, dialogue)
     }
 
     // An answer goes to the peer whose invoke it answers.
-    fn send_answer(
-        &mut self,
-        reading: u64,
-        peer: u8,
-        id: PeerInvokeId,
-        body: Body,
-        out: &mut [u8],
-    ) -> Done
-        requires id { 1 ≤ id.0 }
-        requires right { body_right body ≡ true }
-        requires size { 64 ≤ length out.old }
-        ensures { record { result = Ok result; service = self.new.service; buffer = out.new } ≡ answer_sent self.old.service reading peer id.0 body out.old }
+    fn send_answer(&mut self, reading: u64, peer: u8, id: PeerInvokeId, body: Body) -> Outcome
+        ensures { (result, self.new) ≡ answer_sent self.old reading peer id.0 body }
     {
         self.service.last = reading;
-        let size = write_apdu(&Apdu { id: id.0, body }, out);
-        Done::Sent { peer, size }
+        Outcome::Send {
+            peer,
+            apdu: Apdu { id: id.0, body },
+        }
     }
 
     // Does what an invoke comes to; where a dialogue finds no place or number, the peer gets an error.
-    fn carry_out(
-        &mut self,
-        reading: u64,
-        peer: u8,
-        id: PeerInvokeId,
-        handling: Handling,
-        out: &mut [u8],
-    ) -> Done
-        requires id { 1 ≤ id.0 }
-        requires able { CanDo handling }
-        requires time { reading ≤ 2 ^ 40 }
-        requires size { 64 ≤ length out.old }
-        ensures { record { result = Ok result; service = self.new.service; buffer = out.new } ≡ carried_out self.old.service reading peer id.0 handling out.old }
+    fn carry_out(&mut self, reading: u64, peer: u8, id: PeerInvokeId, handling: Handling) -> Outcome
+        requires time { reading ≤ highest_reading }
+        ensures { (result, self.new) ≡ carried_out self.old reading peer id.0 handling }
     {
-        let (state, notice) = match handling {
-            Handling::Answer(body) => return self.send_answer(reading, peer, id, body, out),
-            Handling::Opens { state, notice } => (state, notice),
+        let (state, outcome) = match handling {
+            Handling::Answer(body) => return self.send_answer(reading, peer, id, body),
+            Handling::Opens { state, outcome } => (state, outcome),
         };
         let Ok(place) = self.service.check_room() else {
             let body = Body::ReturnError(ErrorCode::TemporarilyUnavailable);
-            return self.send_answer(reading, peer, id, body, out);
+            return self.send_answer(reading, peer, id, body);
         };
-        let name = self.service.next;
         self.open_dialogue(reading, place, state);
-        self.tell(name, notice, out)
+        outcome
+    }
+
+    // An invoke of a peer that is not owed its answer yet.
+    fn receive_invoke<A: Algorithm>(
+        &mut self,
+        reading: u64,
+        peer: u8,
+        id: InvokeId,
+        draw: &Draw,
+        invoke: &Invoke,
+        subscribers: &Directory<'_, Subscriber>,
+        algorithm: &mut A,
+    ) -> Result<Outcome, Refusal>
+        requires time { reading ≤ highest_reading }
+        ensures value { (result, self.new)
+            ≡ leaving self.old
+            (came (A.meaning algorithm.old) self.old reading peer draw.now
+            (contents subscribers.now) id (body.Invoke invoke.now)) }
+        ensures same { A.meaning algorithm.new ≡ A.meaning algorithm.old }
+        ensures refused { OnErr result (algorithm.new ≡ algorithm.old) }
+    {
+        self.service.check_once(peer, PeerInvokeId(id))?;
+        let owed = Owed {
+            peer,
+            id: PeerInvokeId(id),
+        };
+        let subscriber = subscribers.get(invoke.user.key());
+        let Service { fit, next, .. } = &self.service;
+        let handling = handle(fit, *next, owed, draw, invoke, subscriber, algorithm);
+        Ok(self.carry_out(reading, peer, PeerInvokeId(id), handling))
+    }
+
+    // An invoke that is due a reject, and not owed its answer yet.
+    fn receive_wrong(
+        &mut self,
+        reading: u64,
+        peer: u8,
+        id: InvokeId,
+        problem: Problem,
+    ) -> Result<Outcome, Refusal>
+        ensures { (result, self.new)
+            ≡ leaving self.old
+            (taken self.old reading peer id (Answer (body.Reject (problem_number problem)))) }
+    {
+        self.service.check_once(peer, PeerInvokeId(id))?;
+        let body = Body::Reject(problem.into());
+        Ok(self.send_answer(reading, peer, PeerInvokeId(id), body))
+    }
+
+    // An answer comes to the dialogue that awaits it.
+    fn receive_answer<A: Algorithm>(
+        &mut self,
+        reading: u64,
+        peer: u8,
+        id: InvokeId,
+        event: &Event,
+        algorithm: &mut A,
+    ) -> Result<Outcome, Refusal>
+        requires time { reading ≤ highest_reading }
+        ensures value { (result, self.new)
+            ≡ leaving self.old
+            (answer_taken (A.meaning algorithm.old) self.old reading peer id event.now) }
+        ensures same { A.meaning algorithm.new ≡ A.meaning algorithm.old }
+        ensures refused { OnErr result (algorithm.new ≡ algorithm.old) }
+    {
+        let place = self.service.place_awaiting(peer, OwnNumber(id.number()));
+        self.meet(reading, event, place, algorithm)
     }
 
     // What the bytes are read as.
@@ -159,45 +199,40 @@ impl Exchange {
         reading: u64,
         peer: u8,
         draw: &Draw,
-        read: Result<Apdu, NoApdu>,
+        read: &Result<Apdu, NoApdu>,
         subscribers: &Directory<'_, Subscriber>,
         algorithm: &mut A,
-        out: &mut [u8],
-    ) -> Result<Done, Refusal>
-        requires able { Lawful read }
-        requires time { reading ≤ 2 ^ 40 }
-        requires size { 64 ≤ length out.old }
-        ensures value { record { result = result; service = self.new.service; buffer = out.new } ≡ received (A.meaning algorithm.old) self.old.service reading peer draw.now (contents subscribers.now) read out.old }
+    ) -> Result<Outcome, Refusal>
+        requires time { reading ≤ highest_reading }
+        ensures value { (result, self.new)
+            ≡ leaving self.old
+            (received (A.meaning algorithm.old) self.old reading peer draw.now
+            (contents subscribers.now) read.now) }
         ensures same { A.meaning algorithm.new ≡ A.meaning algorithm.old }
         ensures refused { OnErr result (algorithm.new ≡ algorithm.old) }
-        ensures unchanged { Unchanged result self.old.service self.new.service out.old out.new }
     {
         let Apdu { id, body } = match read {
             Ok(apdu) => apdu,
             Err(NoApdu::RejectDue { id, problem }) => {
-                let id = PeerInvokeId(id);
-                self.service.check_once(peer, id)?;
-                let body = Body::Reject(problem.into());
-                return Ok(self.send_answer(reading, peer, id, body, out));
+                return self.receive_wrong(reading, peer, *id, *problem);
             }
             Err(NoApdu::Garbled) => return Err(Refusal::Garbled),
         };
-        let event = match body {
+        match body {
             Body::Invoke(invoke) => {
-                let id = PeerInvokeId(id);
-                self.service.check_once(peer, id)?;
-                let owed = Owed { peer, id };
-                let subscriber = subscribers.get(invoke_user(&invoke).key);
-                let Service { fit, next, .. } = &self.service;
-                let handling = handle(fit, *next, owed, draw, invoke, subscriber, algorithm);
-                return Ok(self.carry_out(reading, peer, id, handling, out));
+                self.receive_invoke(reading, peer, *id, draw, invoke, subscribers, algorithm)
             }
-            Body::ReturnResult(result) => Event::Result(result, challenge_half(draw)),
-            Body::ReturnError(error) => Event::Error(error),
-            Body::Reject(problem) => Event::Reject(problem),
-        };
-        let place = self.service.place_awaiting(peer, OwnNumber(id));
-        self.meet(reading, event, place, algorithm, out)
+            Body::ReturnResult(result) => {
+                let event = Event::Result(*result, draw.challenge());
+                self.receive_answer(reading, peer, *id, &event, algorithm)
+            }
+            Body::ReturnError(error) => {
+                self.receive_answer(reading, peer, *id, &Event::Error(*error), algorithm)
+            }
+            Body::Reject(problem) => {
+                self.receive_answer(reading, peer, *id, &Event::Reject(*problem), algorithm)
+            }
+        }
     }
 
     /// Takes what a peer sent. `draw` has 16 bytes, 8 for a challenge and 8 for a parameter, and is to be drawn afresh by the
@@ -205,7 +240,9 @@ impl Exchange {
     ///
     /// Refused with 1, 2, 3; with 4 where the peer is no link or the draw has another size; with 5 where the bytes are neither
     /// an APDU nor due a reject; with 6 where nothing awaits the answer; with 7 where the invoke's peer and id are still owed.
-    /// A refused call changes nothing, and asks the algorithm nothing.
+    /// A refused call changes nothing, and asks the algorithm nothing. Of the algorithm, what is decided rests on its number and
+    /// on its answers to the questions that the call asks, and on nothing else.
+    #[tactic(auto, using(crate::proofs::AsksLemmas::decided_alike))]
     pub fn deliver<A: Algorithm>(
         &mut self,
         reading: u64,
@@ -217,15 +254,21 @@ impl Exchange {
         algorithm: &mut A,
         out: &mut [u8],
     ) -> Result<Done, Refusal>
-        ensures value { record { result = result; service = self.new.service; buffer = out.new } ≡ called (A.meaning algorithm.old) self.old.service (Delivery reading peer draw.now bytes.now (contents links.now) (contents subscribers.now) out.old) }
+        ensures value { record { result = result; service = self.new; buffer = out.new }
+            ≡ called (A.meaning algorithm.old) self.old
+            (Delivery reading peer draw.now bytes.now (contents links.now)
+            (contents subscribers.now) out.old) }
         ensures same { A.meaning algorithm.new ≡ A.meaning algorithm.old }
         ensures refused { OnErr result (algorithm.new ≡ algorithm.old) }
-        ensures unchanged { Unchanged result self.old.service self.new.service out.old out.new }
+        ensures unchanged { Unchanged result self.old self.new out.old out.new }
+        ensures alike { DecidedAlike }
     {
-        self.service.check_ready(reading, out.len())?;
-        let draw = check_delivery(links, peer, draw)?;
+        check_buffer(out)?;
+        self.service.check_ready(reading)?;
+        let draw = check_draw(links, peer, draw)?;
         let read = apdu::read(bytes);
-        self.receive(reading, peer, draw, read, subscribers, algorithm, out)
+        let outcome = self.receive(reading, peer, &draw, &read, subscribers, algorithm)?;
+        Ok(outcome.write(out))
     }
 
     /// Takes the response of 4 bytes with which a terminal replies to the challenge of the dialogue with this name. The peer
@@ -242,13 +285,16 @@ impl Exchange {
         algorithm: &mut A,
         out: &mut [u8],
     ) -> Result<Done, Refusal>
-        ensures value { record { result = result; service = self.new.service; buffer = out.new } ≡ called (A.meaning algorithm.old) self.old.service (Reply reading name response.now out.old) }
+        ensures value { record { result = result; service = self.new; buffer = out.new }
+            ≡ called (A.meaning algorithm.old) self.old (Reply reading name response.now out.old) }
         ensures unasked { algorithm.new ≡ algorithm.old }
-        ensures unchanged { Unchanged result self.old.service self.new.service out.old out.new }
+        ensures unchanged { Unchanged result self.old self.new out.old out.new }
     {
-        self.service.check_ready(reading, out.len())?;
+        check_buffer(out)?;
+        self.service.check_ready(reading)?;
         let response = check_response(response)?;
         let place = self.service.place_at_terminal(name);
-        self.meet(reading, Event::Reply(response), place, algorithm, out)
+        let outcome = self.meet(reading, &Event::Reply(response), place, algorithm)?;
+        Ok(outcome.write(out))
     }
 }

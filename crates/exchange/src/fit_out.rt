@@ -25,13 +25,17 @@ pub enum Timer {
 /// What an exchange is fitted out with. Entering service with a value out of its range is refused with `Misfitted`.
 #[derive(Clone, Copy)]
 pub struct FitOut {
-    /// T1, 15,000 to 60,000 ms, as T2 to T5 are.
+    /// T1, how long a peer's verdict is awaited: 15,000 to 60,000 ms.
     pub t1: u32,
+    /// T2, how long the server's unit or session is awaited: 15,000 to 60,000 ms.
     pub t2: u32,
+    /// T3, how long Home's unit or session is awaited: 15,000 to 60,000 ms.
     pub t3: u32,
+    /// T4, how long Home's proof of the network is awaited: 15,000 to 60,000 ms.
     pub t4: u32,
+    /// T5, how long the server's proof of the network is awaited: 15,000 to 60,000 ms.
     pub t5: u32,
-    /// TR, 1,000 to 60,000 ms.
+    /// TR, how long the terminal's reply is awaited: 1,000 to 60,000 ms.
     pub tr: u32,
     /// The peer that is Home, 1 to 255. It need not be a link for an invoke to go to it.
     pub home: u8,

@@ -1,5 +1,5 @@
 // What a peer's invoke comes to.
-use crate::dialogue::Notice;
+use crate::outcome::Outcome;
 use crate::state::State;
 use apdu::Body;
 
@@ -7,6 +7,6 @@ use apdu::Body;
 pub(crate) enum Handling {
     // It is answered at once.
     Answer(Body),
-    // A dialogue opens in a state, and a notice is told.
-    Opens { state: State, notice: Notice },
+    // A dialogue opens in a state, with an outcome.
+    Opens { state: State, outcome: Outcome },
 }

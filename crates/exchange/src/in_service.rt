@@ -1,30 +1,41 @@
 // An exchange in service.
 ghost use Rattle.std.specs.Prelude.{◌≡◌, ◌+◌, ◌^◌, ◌<◌, ◌≤◌, None, slice_index_or};
-ghost use Rattle.std.specs.Option.{ForSome};
 ghost use Rattle.exchange.specs.Table.{to_take};
-ghost use Rattle.exchange.specs.Service.{CanGoOn, Sound, opened, written};
+ghost use Rattle.exchange.specs.Bounds.{highest_reading, last_opening, most_dialogues};
+ghost use Rattle.exchange.specs.Service.{opened, written};
 
 use crate::dialogue::Dialogue;
-use crate::numbers::OwnNumber;
+use crate::invokes::OwnNumber;
 use crate::service::Service;
 use crate::state::State;
+use std::marker::Model;
 
 /// An exchange in service, which takes calls: the four requests, `deliver`, `reply` and `clock`. It is had from
 /// `FitOut::enter_service` alone, and is never copied.
 #[derive(Drop)]
 pub struct Exchange {
     pub(crate) service: Service,
-    ghost sound: { Sound service },
+}
+
+// A contract sees an exchange as what it keeps.
+impl Model for Exchange {
+    ghost use Rattle.exchange.specs.declared.service.Service.{Service};
+    ghost use Rattle.exchange.specs.Service.{Sound};
+
+    ghost Value = { Service };
+
+    ghost view = { λ exchange. exchange.service };
+
+    ghost invariant = { λ exchange. Sound exchange.service };
 }
 
 impl Exchange {
     // Opens a dialogue under the next number.
     pub(crate) fn open_dialogue(&mut self, reading: u64, place: usize, state: State)
-        requires place { place < 32 }
-        requires time { reading ≤ 2 ^ 40 }
-        requires number { self.old.service.next.0 ≤ 60000 }
-        requires able { CanGoOn state }
-        ensures { self.new.service ≡ opened self.old.service reading place state }
+        requires place { place < most_dialogues }
+        requires time { reading ≤ highest_reading }
+        requires number { self.old.next.0 ≤ last_opening }
+        ensures { self.new ≡ opened self.old reading place state }
     {
         let name = self.service.next;
         let ends = state.end(reading, &self.service.fit);
@@ -39,18 +50,18 @@ impl Exchange {
     }
 
     // Writes what stands at a place, the next number and the last reading.
-    pub(crate) fn write(
+    pub(crate) fn set_place(
         &mut self,
         reading: u64,
         next: OwnNumber,
         place: usize,
         slot: Option<Dialogue>,
     )
-        requires place { place < 32 }
-        requires rising { self.old.service.next.0 ≤ next.0 }
-        requires numbers { next.0 + to_take slot ≤ self.old.service.next.0 + to_take (slice_index_or self.old.service.dialogues place None) }
-        requires able { ForSome slot (λ d. CanGoOn d.state) }
-        ensures { self.new.service ≡ written self.old.service reading next place slot }
+        requires place { place < most_dialogues }
+        requires rising { self.old.next.0 ≤ next.0 }
+        requires numbers { next.0 + to_take slot
+            ≤ self.old.next.0 + to_take (slice_index_or self.old.dialogues place None) }
+        ensures { self.new ≡ written self.old reading next place slot }
     {
         self.service.dialogues[place] = slot;
         self.service.next = next;

@@ -1,53 +1,24 @@
 // What a peer's invoke comes to, by what it asks and by the user's subscriber, apart from the table and the buffer.
-ghost use Rattle.std.specs.Prelude.{◌≡◌, ◌≤◌, true};
-ghost use Rattle.apdu.specs.Encode.{invoke_right};
+ghost use Rattle.std.specs.Prelude.{◌≡◌, ◌≤◌};
 ghost use Rattle.apdu.specs.declared.apdus.Body.TheVariants as body;
 ghost use Rattle.apdu.specs.declared.apdus.WtatInfo.TheVariants as info;
 ghost use Rattle.apdu.specs.declared.apdus.WtanParamRes.TheVariants as proof;
-ghost use Rattle.algorithm.specs.declared.direction.Direction.TheVariants.{User, Network};
+ghost use Rattle.algorithm.specs.declared.direction.Direction.TheVariants as direction;
 ghost use Rattle.exchange.specs.declared.handling.Handling.TheVariants.{Answer};
-ghost use Rattle.exchange.specs.Able.{CanDo};
-ghost use Rattle.exchange.specs.Server.{challenge_half, parameter_half, challenge_or, invoke_user, session_made, unit_made, visited, values_fetched, proof_fetched, handled};
+ghost use Rattle.exchange.specs.Server.{challenge_or, session_made, unit_made, opens, visited, handled};
 
-use crate::dialogue::Notice;
 use crate::fit_out::FitOut;
 use crate::handling::Handling;
-use crate::numbers::{Owed, OwnNumber};
-use crate::outcome::Report;
+use crate::invokes::{Asked, Owed, OwnNumber};
+use crate::outcome::{Outcome, Report};
 use crate::state::State;
 use algorithm::{Algorithm, Direction};
 use apdu::{
-    AuthSession, AuthUnit, AuthWtmArg, Body, Challenge, Invoke, Parameter, ReturnResult,
-    UserNumber, WtanParamArg, WtanParamRes, WtatInfo, WtatParamArg, WtatParamRes,
+    Body, Invoke, Request, ReturnResult, WtanParamRes, WtatInfo, WtatParamArg, WtatParamRes,
 };
-use entries::{KeyPlace, Subscriber, UserKey};
-use wire::ErrorCode;
-
-// What is drawn for a delivery: 8 bytes for a challenge, and 8 for a parameter.
-pub(crate) type Draw = [u8; 16];
-
-pub(crate) fn challenge_half(draw: &Draw) -> Challenge
-    ensures { result ≡ challenge_half draw.now }
-{
-    *draw.first_chunk().unwrap()
-}
-
-fn parameter_half(draw: &Draw) -> Parameter
-    ensures { result ≡ parameter_half draw.now }
-{
-    *draw.last_chunk().unwrap()
-}
-
-// The user that an invoke speaks of.
-pub(crate) fn invoke_user(invoke: &Invoke) -> UserNumber
-    ensures { result ≡ invoke_user invoke.now }
-{
-    match invoke {
-        Invoke::AuthWtmUser(arg) => arg.user,
-        Invoke::GetWtatParam(arg) | Invoke::WtatParamEnq(arg) => arg.user,
-        Invoke::GetWtanParam(arg) | Invoke::WtanParamEnq(arg) => arg.user,
-    }
-}
+use entries::{KeyPlace, Subscriber};
+use values::{AuthSession, AuthUnit, Challenge, Draw, User, UserKey};
+use wire::{ErrorCode, Provider};
 
 // A session under the user's key and the drawn parameter.
 fn make_session<A: Algorithm>(
@@ -59,14 +30,19 @@ fn make_session<A: Algorithm>(
     ensures value { result ≡ session_made (A.meaning algorithm.old) draw.now key.now direction }
     ensures same { A.meaning algorithm.new ≡ A.meaning algorithm.old }
 {
-    let parameter = parameter_half(draw);
+    let parameter = draw.parameter();
     let key = algorithm.session(direction, key, &parameter);
     AuthSession { key, parameter }
 }
 
 // The user's proof, as a session.
 fn session_values<A: Algorithm>(draw: &Draw, key: &UserKey, algorithm: &mut A) -> WtatParamRes
-    ensures value { result ≡ record { algorithm = (A.meaning algorithm.old).number; info = info.Session (session_made (A.meaning algorithm.old) draw.now key.now User) } }
+    ensures value { let m = A.meaning algorithm.old in
+        result
+        ≡ record {
+          algorithm = m.number;
+          info = info.Session (session_made m draw.now key.now direction.User);
+        } }
     ensures same { A.meaning algorithm.new ≡ A.meaning algorithm.old }
 {
     let session = make_session(draw, key, Direction::User, algorithm);
@@ -83,11 +59,16 @@ fn unit_values<A: Algorithm>(
     challenge: Option<Challenge>,
     algorithm: &mut A,
 ) -> WtatParamRes
-    ensures value { result ≡ record { algorithm = (A.meaning algorithm.old).number; info = info.Unit (unit_made (A.meaning algorithm.old) draw.now key.now (challenge_or challenge draw.now)) } }
+    ensures value { let m = A.meaning algorithm.old in
+        result
+        ≡ record {
+          algorithm = m.number;
+          info = info.Unit (unit_made m draw.now key.now (challenge_or challenge draw.now));
+        } }
     ensures same { A.meaning algorithm.new ≡ A.meaning algorithm.old }
 {
     let session = make_session(draw, key, Direction::User, algorithm);
-    let challenge = challenge.unwrap_or(challenge_half(draw));
+    let challenge = challenge.unwrap_or(draw.challenge());
     let response = algorithm.response(&session.key, &challenge);
     WtatParamRes {
         algorithm: algorithm.number(),
@@ -100,7 +81,9 @@ fn unit_values<A: Algorithm>(
 
 // The network's proof, as a session.
 fn proof_session<A: Algorithm>(draw: &Draw, key: &UserKey, algorithm: &mut A) -> WtanParamRes
-    ensures value { result ≡ proof.Session (session_made (A.meaning algorithm.old) draw.now key.now Network) }
+    ensures value { result
+        ≡ proof.Session
+        (session_made (A.meaning algorithm.old) draw.now key.now direction.Network) }
     ensures same { A.meaning algorithm.new ≡ A.meaning algorithm.old }
 {
     WtanParamRes::Session(make_session(draw, key, Direction::Network, algorithm))
@@ -113,7 +96,10 @@ fn proof_response<A: Algorithm>(
     challenge: Challenge,
     algorithm: &mut A,
 ) -> WtanParamRes
-    ensures value { let m = A.meaning algorithm.old in result ≡ proof.Response (m.response (session_made m draw.now key.now Network).key challenge) }
+    ensures value { let m = A.meaning algorithm.old in
+        result
+        ≡ proof.Response
+        (m.response (session_made m draw.now key.now direction.Network).key challenge) }
     ensures same { A.meaning algorithm.new ≡ A.meaning algorithm.old }
 {
     let session = make_session(draw, key, Direction::Network, algorithm);
@@ -132,11 +118,23 @@ fn fail_at_once(error: ErrorCode) -> Handling
     Handling::Answer(Body::ReturnError(error))
 }
 
-// authWtmUser: on to the terminal with the unit that it brings, or Home is asked for one.
-fn visit(fit: &FitOut, next: OwnNumber, owed: Owed, arg: AuthWtmArg) -> Handling
-    ensures { result ≡ visited fit.now next owed arg.user arg.unit }
+// A dialogue opens for a peer's invoke, and an invoke of ours goes to the peer that is asked.
+fn open(asked: Asked, state: State, invoke: Invoke) -> Handling
+    requires { 1 ≤ asked.id.0 }
+    ensures { result ≡ opens asked state invoke }
 {
-    if let Some(unit) = arg.unit {
+    Handling::Opens {
+        state,
+        outcome: asked.invoke(invoke),
+    }
+}
+
+// authWtmUser: on to the terminal with the unit that it brings, or Home is asked for one.
+fn visit(fit: &FitOut, next: OwnNumber, owed: Owed, user: User, unit: Option<AuthUnit>) -> Handling
+    requires { 1 ≤ next.0 }
+    ensures { result ≡ visited fit.now next owed user unit }
+{
+    if let Some(unit) = unit {
         let expected = unit.response;
         let challenge = unit.challenge;
         return Handling::Opens {
@@ -144,54 +142,25 @@ fn visit(fit: &FitOut, next: OwnNumber, owed: Owed, arg: AuthWtmArg) -> Handling
                 owed: Some(owed),
                 expected,
             },
-            notice: Notice::Report(Report::Challenge(challenge)),
+            outcome: Outcome::Report {
+                name: next,
+                report: Report::Challenge(challenge),
+            },
         };
     }
     let asked = next.asking(fit.home);
     let computes = fit.can_compute;
-    let invoke = Invoke::GetWtatParam(WtatParamArg {
-        user: arg.user,
-        challenge: None,
+    let state = State::Requesting {
+        asked,
+        owed: Some(owed),
         computes,
-    });
-    Handling::Opens {
-        state: State::Requesting {
-            asked,
-            owed: Some(owed),
-            computes,
-        },
-        notice: asked.invoke(invoke),
-    }
-}
-
-// getWtatParam, where the parameters are at the server: the same fields go there.
-fn fetch_values(fit: &FitOut, next: OwnNumber, owed: Owed, arg: WtatParamArg) -> Handling
-    ensures { result ≡ values_fetched fit.now next owed arg }
-{
-    let asked = next.asking(fit.server);
-    Handling::Opens {
-        state: State::FetchingForVisitor {
-            asked,
-            owed,
-            computes: arg.computes,
-        },
-        notice: asked.invoke(Invoke::WtatParamEnq(arg)),
-    }
-}
-
-// getWtanParam, where the key is at the server: the same fields go there.
-fn fetch_proof(fit: &FitOut, next: OwnNumber, owed: Owed, arg: WtanParamArg) -> Handling
-    ensures { result ≡ proof_fetched fit.now next owed arg }
-{
-    let asked = next.asking(fit.server);
-    Handling::Opens {
-        state: State::FetchingProof {
-            asked,
-            owed,
-            computes: arg.computes,
-        },
-        notice: asked.invoke(Invoke::WtanParamEnq(arg)),
-    }
+    };
+    let arg = WtatParamArg {
+        computes,
+        challenge: None,
+    };
+    let request = Request::WtatParam(Provider::Home, arg);
+    open(asked, state, Invoke { user, request })
 }
 
 // Operation, place, canCompute and algorithm number together decide, in one `match`. `next` is the next number.
@@ -200,73 +169,63 @@ pub(crate) fn handle<A: Algorithm>(
     next: OwnNumber,
     owed: Owed,
     draw: &Draw,
-    invoke: Invoke,
+    invoke: &Invoke,
     subscriber: Option<Subscriber>,
     algorithm: &mut A,
 ) -> Handling
-    requires id { 1 ≤ owed.id.0 }
     requires next { 1 ≤ next.0 }
-    requires right { invoke_right invoke ≡ true }
-    ensures value { result ≡ handled fit.now next owed (A.meaning algorithm.old) draw.now invoke subscriber }
-    ensures able { CanDo result }
+    ensures value { result
+        ≡ handled fit.now next owed (A.meaning algorithm.old) draw.now invoke.now subscriber }
     ensures same { A.meaning algorithm.new ≡ A.meaning algorithm.old }
 {
-    match (invoke, subscriber.map(|found| (found.place, found))) {
-        (Invoke::AuthWtmUser(arg), _) => visit(fit, next, owed, arg),
+    let user = invoke.user;
+    let asked = next.asking(fit.server);
+    match (
+        &invoke.request,
+        subscriber
+            .as_ref()
+            .map(|found| (found.key_place, &found.user_key)),
+    ) {
+        (Request::AuthWtmUser(unit), _) => visit(fit, next, owed, user, *unit),
         (_, None) => fail_at_once(ErrorCode::InvalidServedUserNr),
-        (Invoke::GetWtatParam(arg), Some((KeyPlace::Server, _))) => {
-            fetch_values(fit, next, owed, arg)
+        // Where the parameters are at the server the same fields go there.
+        (Request::WtatParam(Provider::Home, arg), Some((KeyPlace::Server, _))) => {
+            let computes = arg.computes;
+            let state = State::FetchingForVisitor {
+                asked,
+                owed,
+                computes,
+            };
+            let request = Request::WtatParam(Provider::Server, *arg);
+            open(asked, state, Invoke { user, request })
         }
-        (Invoke::GetWtanParam(arg), Some((KeyPlace::Server, _))) => {
-            fetch_proof(fit, next, owed, arg)
+        (Request::WtanParam(Provider::Home, arg), Some((KeyPlace::Server, _))) => {
+            let computes = arg.computes;
+            let state = State::FetchingProof {
+                asked,
+                owed,
+                computes,
+            };
+            let request = Request::WtanParam(Provider::Server, *arg);
+            open(asked, state, Invoke { user, request })
         }
-        (Invoke::GetWtatParam(arg), Some((KeyPlace::Here, found))) if arg.computes => {
-            answer_at_once(ReturnResult::GetWtatParam(session_values(
-                draw,
-                &found.user_key,
-                algorithm,
-            )))
+        (Request::WtatParam(provider, arg), Some((KeyPlace::Here, key))) if arg.computes => {
+            let values = session_values(draw, key, algorithm);
+            answer_at_once(ReturnResult::WtatParam(*provider, values))
         }
-        (Invoke::GetWtatParam(arg), Some((KeyPlace::Here, found))) => {
-            let values = unit_values(draw, &found.user_key, arg.challenge, algorithm);
-            answer_at_once(ReturnResult::GetWtatParam(values))
+        (Request::WtatParam(provider, arg), Some((KeyPlace::Here, key))) => {
+            let values = unit_values(draw, key, arg.challenge, algorithm);
+            answer_at_once(ReturnResult::WtatParam(*provider, values))
         }
-        (Invoke::WtatParamEnq(arg), Some((KeyPlace::Here, found))) if arg.computes => {
-            answer_at_once(ReturnResult::WtatParamEnq(session_values(
-                draw,
-                &found.user_key,
-                algorithm,
-            )))
-        }
-        (Invoke::WtatParamEnq(arg), Some((KeyPlace::Here, found))) => {
-            let values = unit_values(draw, &found.user_key, arg.challenge, algorithm);
-            answer_at_once(ReturnResult::WtatParamEnq(values))
-        }
-        (Invoke::GetWtanParam(arg), Some((KeyPlace::Here, found)))
+        (Request::WtanParam(provider, arg), Some((KeyPlace::Here, key)))
             if arg.algorithm == algorithm.number() && arg.computes => {
-            answer_at_once(ReturnResult::GetWtanParam(proof_session(
-                draw,
-                &found.user_key,
-                algorithm,
-            )))
+            let proof = proof_session(draw, key, algorithm);
+            answer_at_once(ReturnResult::WtanParam(*provider, proof))
         }
-        (Invoke::GetWtanParam(arg), Some((KeyPlace::Here, found)))
+        (Request::WtanParam(provider, arg), Some((KeyPlace::Here, key)))
             if arg.algorithm == algorithm.number() => {
-            let proof = proof_response(draw, &found.user_key, arg.challenge, algorithm);
-            answer_at_once(ReturnResult::GetWtanParam(proof))
-        }
-        (Invoke::WtanParamEnq(arg), Some((KeyPlace::Here, found)))
-            if arg.algorithm == algorithm.number() && arg.computes => {
-            answer_at_once(ReturnResult::WtanParamEnq(proof_session(
-                draw,
-                &found.user_key,
-                algorithm,
-            )))
-        }
-        (Invoke::WtanParamEnq(arg), Some((KeyPlace::Here, found)))
-            if arg.algorithm == algorithm.number() => {
-            let proof = proof_response(draw, &found.user_key, arg.challenge, algorithm);
-            answer_at_once(ReturnResult::WtanParamEnq(proof))
+            let proof = proof_response(draw, key, arg.challenge, algorithm);
+            answer_at_once(ReturnResult::WtanParam(*provider, proof))
         }
         _ => fail_at_once(ErrorCode::ParamNotAvailable),
     }

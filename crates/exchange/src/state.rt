@@ -1,10 +1,11 @@
 // The states of a dialogue.
-ghost use Rattle.std.specs.Prelude.{◌≡◌, ◌^◌, ◌≤◌};
+ghost use Rattle.std.specs.Prelude.{◌≡◌, ◌≤◌};
+ghost use Rattle.exchange.specs.Bounds.{highest_reading};
 ghost use Rattle.exchange.specs.State.{timer_of, end_of, owed_by, asked_by, is_owed_to, is_asked_of, is_at_terminal};
 
 use crate::fit_out::{FitOut, Timer};
-use crate::numbers::{Asked, Owed, OwnNumber, PeerInvokeId};
-use apdu::{Challenge, Response, UserNumber};
+use crate::invokes::{Asked, Owed, OwnNumber, PeerInvokeId};
+use values::{Challenge, Response, User};
 
 /// What a dialogue awaits and what it owes. `computes` tells whether our invoke said that the asker can compute, so that a
 /// session may come back.
@@ -12,41 +13,59 @@ use apdu::{Challenge, Response, UserNumber};
 pub enum State {
     /// For an initiation with values: awaits the server's result of wtatParamEnq, with a unit for this user at this peer. T2.
     FetchingForInitiation {
+        /// Our invoke whose answer is awaited.
         asked: Asked,
-        user: UserNumber,
+        /// The user whom the later invoke names.
+        user: User,
+        /// The peer of the initiation, to which that invoke goes.
         peer: u8,
     },
     /// Awaits the peer's result of authWtmUser. T1.
     Initiating {
+        /// Our invoke whose answer is awaited.
         asked: Asked,
     },
     /// Owes getWtatParam; awaits the server's result of wtatParamEnq. T2.
     FetchingForVisitor {
+        /// Our invoke whose answer is awaited.
         asked: Asked,
+        /// The peer's invoke that is owed its answer.
         owed: Owed,
+        /// Whether our invoke said that the asker can compute.
         computes: bool,
     },
     /// Owes authWtmUser, or nothing after a Visitor start; awaits Home's result of getWtatParam. T3.
     Requesting {
+        /// Our invoke whose answer is awaited.
         asked: Asked,
+        /// The peer's invoke that is owed its answer, if there is one.
         owed: Option<Owed>,
+        /// Whether our invoke said that the asker can compute.
         computes: bool,
     },
     /// With the terminal: owes as when requesting; awaits the terminal's reply, correct where it is this response of 4 bytes. TR.
     Executing {
+        /// The peer's invoke that is owed its answer, if there is one.
         owed: Option<Owed>,
+        /// The response that is correct, 4 bytes.
         expected: Response,
     },
     /// Awaits Home's result of getWtanParam, for the terminal's challenge of 8 bytes. T4.
     RequestingProof {
+        /// Our invoke whose answer is awaited.
         asked: Asked,
+        /// Whether our invoke said that the asker can compute.
         computes: bool,
+        /// The terminal's challenge, 8 bytes.
         challenge: Challenge,
     },
     /// Owes getWtanParam; awaits the server's result of wtanParamEnq. T5.
     FetchingProof {
+        /// Our invoke whose answer is awaited.
         asked: Asked,
+        /// The peer's invoke that is owed its answer.
         owed: Owed,
+        /// Whether our invoke said that the asker can compute.
         computes: bool,
     },
 }
@@ -68,7 +87,7 @@ impl State {
 
     // The reading at which its timer ends, where it is entered at a reading.
     pub(crate) fn end(&self, reading: u64, fit: &FitOut) -> u64
-        requires time { reading ≤ 2 ^ 40 }
+        requires time { reading ≤ highest_reading }
         ensures { result ≡ end_of fit.now reading self.now }
     {
         reading + u64::from(fit.duration(self.timer()))

@@ -1,10 +1,8 @@
 -- How far a record of a tape was found right, by its record of the sheet.
-use Rattle.std.specs.Prelude.{ℕ, Bool, false, List, [], ◌∷◌, Some, None, Option}
+use Rattle.std.specs.Prelude.{Bool, false, Some, None, Option}
 use Rattle.refusal.specs.declared.Refusal.{Refusal}
 use Rattle.refusal.specs.declared.Refusal.TheVariants as refusal
-use Rattle.refusal.specs.Numbers.{numbered}
-use Rattle.sheet.specs.declared.lines.Answer.{Answer}
-use Rattle.sheet.specs.declared.lines.Answer.TheVariants as answer
+use Rattle.records.specs.Sheet.{SheetEntry, refused}
 use Rattle.explain.specs.declared.progress.Progress.{Progress}
 use Rattle.explain.specs.declared.progress.Progress.TheVariants.{Done, Addressed, Misdialled, Nowhere}
 
@@ -21,19 +19,11 @@ refused_with refusal.Full = Addressed
 refused_with refusal.Spent = Addressed
 refused_with refusal.Misfitted = Nowhere
 
-abbrev pub numbered_with : Option Refusal → Progress
-numbered_with None = Nowhere
-numbered_with (Some known) = refused_with known
-
--- a refusal has one byte, its number
-abbrev pub refused_by : List ℕ → Progress
-refused_by (number ∷ []) = numbered_with (numbered number)
-refused_by value = Nowhere
-
-abbrev pub answered_with : Option Answer → List ℕ → Progress
-answered_with None value = Nowhere
-answered_with (Some answer.Refused) value = refused_by value
-answered_with (Some other) value = Done
+-- without a record of the sheet nothing is known to be right
+abbrev pub answered_with : Option SheetEntry → Progress
+answered_with None = Nowhere
+answered_with (Some (refused refusal)) = refused_with refusal
+answered_with (Some outcome) = Done
 
 -- a record that is refused with 4 is known to be right in nothing where its digits, or its APDU, are not well formed
 abbrev pub given : Progress → Bool → Progress

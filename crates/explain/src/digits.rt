@@ -1,9 +1,9 @@
 // The digits of a user number, in words.
 ghost use Rattle.std.specs.Prelude.{◌≡◌, is_some};
-ghost use Rattle.users.specs.Users.{user_number};
+ghost use Rattle.values.specs.User.{user_number};
 
 use std::{fmt, str};
-use users::UserNumber;
+use values::User;
 
 /// Bytes that stand where a user number belongs. Where they are none, they are only counted: they may be a key's.
 #[derive(Clone, Copy)]
@@ -14,7 +14,7 @@ impl Digits<'_> {
     pub fn is_user(&self) -> bool
         ensures { result ≡ is_some (user_number self.now.0.now) }
     {
-        UserNumber::from_digits(self.0).is_some()
+        User::from_digits(self.0).is_some()
     }
 }
 

@@ -2,7 +2,8 @@
 //
 // A tape may be put together wrongly: where a time, a challenge, digits or an APDU belong, the bytes of a subscriber's
 // key may stand. So no part of a record is shown before the run has found it right, bytes that are no user number and no
-// APDU are only counted, and a draw is not shown at all.
+// APDU are only counted, and a draw is not shown at all. A sheet from elsewhere changes nothing of this: what is shown of a
+// tape goes by the run that is made here, and of the sheet its records are shown, and of what is no record nothing.
 //
 // What remains is a key at a place where any bytes are right, which cannot be told from what belongs there:
 // - the challenge of a network proof that is done, and the response of a reply that is done;
@@ -13,12 +14,12 @@
 //   problem;
 // - the size of such a record, where a length was wrong and the key stands as the next record's head.
 ghost use Rattle.std.specs.Prelude.{◌≡◌};
-ghost use Rattle.sheet.specs.Lines.{answer_of};
+ghost use Rattle.std.specs.Option.{option_map};
+ghost use Rattle.records.specs.Sheet.{sheet_view};
 ghost use Rattle.explain.specs.Progress.{refused_with, answered_with, given};
 
+use records::SheetRecord;
 use refusal::Refusal;
-use sheet::Answer;
-use wire::Field;
 
 /// How far a record was found right, by what came of it.
 #[derive(Clone, Copy, PartialEq, Eq)]
@@ -44,16 +45,15 @@ fn progress_of(refusal: Refusal) -> Progress
 }
 
 impl Progress {
-    /// The progress of the record that has this outcome on the sheet.
-    pub fn of(outcome: Field<'_>) -> Progress
-        ensures { result ≡ answered_with (answer_of outcome.entry.tag) outcome.entry.value.now }
+    /// The progress of the record of a tape that has this record on the sheet of its run; without one, nothing of it is
+    /// known to be right.
+    pub fn of(outcome: &Option<SheetRecord<'_>>) -> Progress
+        ensures { result ≡ answered_with (option_map sheet_view outcome.now) }
     {
-        match (Answer::try_from(outcome.tag), outcome.value) {
-            (Ok(Answer::Refused), [number]) => {
-                Refusal::try_from(*number).map_or(Progress::Nowhere, progress_of)
-            }
-            (Ok(Answer::Refused), _) | (Err(_), _) => Progress::Nowhere,
-            _ => Progress::Done,
+        match outcome {
+            Some(SheetRecord::Refused(refusal)) => progress_of(*refusal),
+            Some(_) => Progress::Done,
+            None => Progress::Nowhere,
         }
     }
 

@@ -7,12 +7,13 @@ use crate::bytes::Bytes;
 use crate::digits::Digits;
 use apdu::NoApdu;
 use std::fmt;
-use wire::{ErrorCode, Field, Kind, Operation, Reader, Verdict, tags};
+use wire::{ErrorCode, Field, Kind, Operation, Provider, Reader, Verdict, tags};
 
 /// What is sent or delivered: an APDU by its fields, an invoke that is due a reject by its id and the problem, and of
 /// other bytes their number alone.
 #[derive(Clone, Copy)]
 pub struct Sent<'a> {
+    /// What is sent or delivered.
     pub bytes: &'a [u8],
     /// Whether challenges, responses and parameters are shown. A session key never is.
     pub with_values: bool,
@@ -64,10 +65,10 @@ impl fmt::Display for OperationName {
     fn fmt<W: fmt::Write>(&self, f: &mut fmt::Formatter<W>) -> fmt::Result {
         match Operation::try_from(self.0) {
             Ok(Operation::AuthWtmUser) => write!(f, "authWtmUser"),
-            Ok(Operation::GetWtatParam) => write!(f, "getWtatParam"),
-            Ok(Operation::WtatParamEnq) => write!(f, "wtatParamEnq"),
-            Ok(Operation::GetWtanParam) => write!(f, "getWtanParam"),
-            Ok(Operation::WtanParamEnq) => write!(f, "wtanParamEnq"),
+            Ok(Operation::WtatParam(Provider::Home)) => write!(f, "getWtatParam"),
+            Ok(Operation::WtatParam(Provider::Server)) => write!(f, "wtatParamEnq"),
+            Ok(Operation::WtanParam(Provider::Home)) => write!(f, "getWtanParam"),
+            Ok(Operation::WtanParam(Provider::Server)) => write!(f, "wtanParamEnq"),
             Err(_) => write!(f, "{}", self.0),
         }
     }
@@ -158,7 +159,7 @@ impl fmt::Display for Named<'_> {
 
 impl fmt::Display for Sent<'_> {
     fn fmt<W: fmt::Write>(&self, f: &mut fmt::Formatter<W>) -> fmt::Result {
-        match apdu::read(self.bytes) {
+        match &apdu::read(self.bytes) {
             Ok(_) => {
                 for field in Reader::new(self.bytes) {
                     let with_values = self.with_values;
@@ -167,7 +168,7 @@ impl fmt::Display for Sent<'_> {
                 Ok(())
             }
             Err(NoApdu::RejectDue { id, problem }) => {
-                let problem: u8 = problem.into();
+                let (id, problem): (u16, u8) = (id.number(), (*problem).into());
                 write!(
                     f,
                     ", kind invoke, invoke id {id}, due a reject with problem {problem}"
@@ -186,6 +187,6 @@ impl Sent<'_> {
     pub fn is_well_formed(&self) -> bool
         ensures { result ≡ is_well_formed (received_as self.now.bytes.now) }
     {
-        !matches!(apdu::read(self.bytes), Err(NoApdu::Garbled))
+        !matches!(&apdu::read(self.bytes), Err(NoApdu::Garbled))
     }
 }

@@ -3,10 +3,11 @@
 
 ghost use Rattle.std.specs.Prelude.{◌≡◌, Some};
 ghost use Rattle.std.specs.Option.{ok_or};
-ghost use Rattle.refusal.specs.Numbers.{refusal_number, refusal_name, numbered};
+ghost use Rattle.refusal.specs.Refusals.{refusal_number, refusal_name, refusal_of};
 
 use std::error::Error;
 use std::fmt;
+use wire::UnknownNumber;
 
 /// In the order in which a call checks for them, by their numbers.
 #[derive(Clone, Copy, PartialEq, Eq, Debug)]
@@ -35,11 +36,6 @@ pub enum Refusal {
     Misfitted = 10,
 }
 
-/// A number that no refusal has.
-#[derive(Clone, Copy, PartialEq, Eq, Debug)]
-pub struct UnknownRefusal(pub u8);
-
-// Conversions of its own, as each code list has them: `as` works on no type parameter.
 impl From<Refusal> for u8 {
     ghost from_gives = { λ refusal n. n ≡ refusal_number refusal };
 
@@ -49,11 +45,11 @@ impl From<Refusal> for u8 {
 }
 
 impl TryFrom<u8> for Refusal {
-    type Error = UnknownRefusal;
+    type Error = UnknownNumber;
 
-    ghost try_from_gives = { λ n answer. answer ≡ ok_or (numbered n) (record { 0 = n }) };
+    ghost try_from_gives = { λ n answer. answer ≡ ok_or (refusal_of n) (record { 0 = n }) };
 
-    fn try_from(number: u8) -> Result<Refusal, UnknownRefusal> {
+    fn try_from(number: u8) -> Result<Refusal, UnknownNumber> {
         match number {
             1 => Ok(Refusal::ShortSheet),
             2 => Ok(Refusal::ClockBack),
@@ -65,7 +61,7 @@ impl TryFrom<u8> for Refusal {
             8 => Ok(Refusal::Full),
             9 => Ok(Refusal::Spent),
             10 => Ok(Refusal::Misfitted),
-            _ => Err(UnknownRefusal(number)),
+            _ => Err(UnknownNumber(number)),
         }
     }
 }

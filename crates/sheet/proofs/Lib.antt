@@ -1,4 +1,5 @@
 mod Growth
 mod OneEach
+mod PassedOver
 mod Pieces
 mod Worked

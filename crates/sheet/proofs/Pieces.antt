@@ -1,14 +1,14 @@
 -- A tape in pieces, one after another. Assumes nothing.
-use Rattle.std.proofs.Common.{◌≡◌, ℕ, zero, suc, ◌+◌, ◌-◌, ◌≤◌, false, cond, leb, List, [], ◌∷◌, ◌++◌, length, take, drop, Some, None, Option, Result, sym, refl, ap, ◌∙◌, ⊎_elim, arith, length-drop, eq-eqb, ne_eqb}
+use Rattle.std.proofs.Common.{◌≡◌, ℕ, zero, suc, ◌+◌, ◌-◌, ◌≤◌, false, cond, leb, List, [], ◌∷◌, length, take, drop, Some, None, Option, Result, sym, refl, ap, ◌∙◌, ⊎_elim, arith, length-drop, eq-eqb, ne_eqb}
 use Rattle.std.proofs.lemmas.Option.{none-some}
 use borrow.Author.Tests.{eqb-false}
 use Rattle.std.proofs.lemmas.Bool.{cases_Bool, leb-true}
 use Rattle.wire.specs.Fields.{Cut, cut, next_field, is_nothing}
-use Rattle.sheet.specs.Records.{read_entry}
+use Rattle.records.specs.Tape.{tape_read}
 use Rattle.refusal.specs.declared.Refusal.{Refusal}
 use Rattle.exchange.specs.declared.service.Service.{Service}
-use Rattle.sheet.specs.Bench.{State, AfterRecord, first_taken, taken}
-use Rattle.sheet.specs.Run.{Piece, whole, piece, pieces, pieces_of, blank, record_after, run_on, run_from, run_pieces, sheet_of}
+use Rattle.sheet.specs.Bench.{BenchView, AfterRecord, first_taken, record_taken}
+use Rattle.sheet.specs.Run.{Piece, whole, cut_off, piece, pieces, pieces_of, blank, record_after, run_on, run_from, run_pieces, sheet_entries}
 
 cut_shorter : (t n : ℕ) (bs : List ℕ) (f : Cut) → cut t n bs ≡ Some f → length f.rest ≤ length bs
 cut_shorter t n bs f e =
@@ -56,12 +56,16 @@ pieces_whole bs f e =
     let p = some_pieces bs (Some f) y e in
     p.2 ∙ ap (λ (ps : List Piece). whole f.tag f.value ∷ ps) (pieces_enough p.0 (length f.rest) f.rest (omega (arith, p.1)) (omega arith))
 
+-- bytes that are there, but no whole record
+pub pieces_cut : (bs : List ℕ) → next_field bs ≡ None → is_nothing bs ≡ false → pieces_of bs ≡ cut_off ∷ []
+pieces_cut bs e y = (some_pieces bs None y e).2
+
 -- one record of the tape, and its record of the sheet
-pub turn : (b : State) (bs : List ℕ) (f : Cut) (a : AfterRecord) → next_field bs ≡ Some f → a ≡ taken b (read_entry f.tag f.value) blank → record_after a ++ run_on a.bench (pieces_of f.rest) ≡ run_on b (pieces_of bs)
+pub turn : (b : BenchView) (bs : List ℕ) (f : Cut) (a : AfterRecord) → next_field bs ≡ Some f → a ≡ record_taken b (tape_read f.tag f.value) blank → record_after a ∷ run_on a.bench (pieces_of f.rest) ≡ run_on b (pieces_of bs)
 turn b bs f a next after =
     let rest : List Piece = pieces_of f.rest in
-    ap (λ (r : AfterRecord). record_after r ++ run_on r.bench rest) after ∙ ap (run_on b) (sym (pieces_whole bs f next))
+    ap (λ (r : AfterRecord). record_after r ∷ run_on r.bench rest) after ∙ ap (run_on b) (sym (pieces_whole bs f next))
 
 -- the first record decides the run
-pub first : (bs : List ℕ) (f : Cut) (r : Result Service Refusal) → next_field bs ≡ Some f → r ≡ first_taken (read_entry f.tag f.value) → sheet_of bs ≡ run_from r (pieces_of f.rest)
+pub first : (bs : List ℕ) (f : Cut) (r : Result Service Refusal) → next_field bs ≡ Some f → r ≡ first_taken (tape_read f.tag f.value) → sheet_entries bs ≡ run_from r (pieces_of f.rest)
 first bs f r next after = ap run_pieces (pieces_whole bs f next) ∙ ap (λ (x : Result Service Refusal). run_from x (pieces_of f.rest)) (sym after)

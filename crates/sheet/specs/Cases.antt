@@ -3,6 +3,15 @@ use Rattle.std.specs.Prelude.{◌≡◌, ℕ, zero, suc, List, [], ◌∷◌, �
 use Prim.Native.String.{String}
 use Rattle.apdu.specs.Cases.{hex}
 use Rattle.wire.specs.Fields.{field, two}
+use Rattle.records.specs.declared.tags.TapeTag.{TapeTag}
+use Rattle.records.specs.declared.tags.TapeTag.TheVariants as tape
+use Rattle.records.specs.declared.tags.SheetTag.{SheetTag}
+use Rattle.records.specs.declared.tags.SheetTag.TheVariants as sheet
+use Rattle.records.specs.declared.tags.ReportKind.{ReportKind}
+use Rattle.records.specs.declared.tags.ReportKind.TheVariants as report
+use Rattle.records.specs.declared.tags.CauseKind.{CauseKind}
+use Rattle.records.specs.declared.tags.CauseKind.TheVariants as cause
+use Rattle.records.specs.Tags.{tape_tag_number, sheet_tag_number, report_kind_number, cause_kind_number}
 use Rattle.sheet.specs.Run.{sheet_of}
 
 -- each record of a tape, and the record of the sheet that it gives
@@ -16,6 +25,9 @@ abbrev pub sheet_wanted : Case → List ℕ
 sheet_wanted case = flat_map (λ row. row.1) case
 
 -- The records of a tape.
+
+abbrev pub asks : TapeTag → List ℕ → List ℕ
+asks tag value = field (tape_tag_number tag) value
 
 -- a time below 2^16, in four bytes and in eight
 abbrev pub time : ℕ → List ℕ
@@ -32,10 +44,10 @@ can = 1
 
 -- T2 to TR are 15,001 to 15,005, the Home peer is 1, the server peer 2, and it can compute or cannot
 abbrev pub fits_out : ℕ → ℕ → List ℕ
-fits_out t1 computing = field 0x10 (time t1 ++ time 15001 ++ time 15002 ++ time 15003 ++ time 15004 ++ time 15005 ++ 1 ∷ 2 ∷ computing ∷ [])
+fits_out t1 computing = asks tape.FitOut (time t1 ++ time 15001 ++ time 15002 ++ time 15003 ++ time 15004 ++ time 15005 ++ 1 ∷ 2 ∷ computing ∷ [])
 
 abbrev pub links_to : ℕ → List ℕ
-links_to peer = field 0x11 (peer ∷ [])
+links_to peer = asks tape.Link (peer ∷ [])
 
 -- the places of a subscriber's parameters
 abbrev pub nowhere : ℕ
@@ -49,28 +61,28 @@ at_server = 2
 
 -- a subscriber with a key of sixteen bytes 7
 abbrev pub subscribes : ℕ → String → List ℕ
-subscribes place digits = field 0x12 (place ∷ replicate 16 7 ++ codes digits)
+subscribes place digits = asks tape.Subscriber (place ∷ replicate 16 7 ++ codes digits)
 
 -- to peer 5
 abbrev pub initiates : ℕ → String → List ℕ
-initiates at digits = field 0x20 (reading at ++ 5 ∷ codes digits)
+initiates at digits = asks tape.PlainInitiation (reading at ++ 5 ∷ codes digits)
 
 abbrev pub initiates_with_values : ℕ → String → List ℕ
-initiates_with_values at digits = field 0x21 (reading at ++ 5 ∷ codes digits)
+initiates_with_values at digits = asks tape.InitiationWithValues (reading at ++ 5 ∷ codes digits)
 
 abbrev pub starts_as_visitor : ℕ → String → List ℕ
-starts_as_visitor at digits = field 0x22 (reading at ++ codes digits)
+starts_as_visitor at digits = asks tape.VisitorStart (reading at ++ codes digits)
 
 -- the challenge that a terminal or an asker sends
 abbrev pub challenge : List ℕ
 challenge = hex "01 02 03 04 05 06 07 08"
 
 abbrev pub asks_for_proof : ℕ → String → List ℕ
-asks_for_proof at digits = field 0x23 (reading at ++ challenge ++ codes digits)
+asks_for_proof at digits = asks tape.NetworkProof (reading at ++ challenge ++ codes digits)
 
 -- the terminal of the dialogue with a name replies
 abbrev pub replies : ℕ → ℕ → List ℕ → List ℕ
-replies at name response = field 0x24 (reading at ++ two name ++ response)
+replies at name response = asks tape.Reply (reading at ++ two name ++ response)
 
 -- the challenge and the parameter that every delivery draws
 abbrev pub drawn : List ℕ
@@ -80,10 +92,10 @@ abbrev pub parameter : List ℕ
 parameter = hex "31 32 33 34 35 36 37 38"
 
 abbrev pub delivers : ℕ → ℕ → List ℕ → List ℕ
-delivers at peer bytes = field 0x25 (reading at ++ drawn ++ parameter ++ peer ∷ bytes)
+delivers at peer bytes = asks tape.Delivery (reading at ++ drawn ++ parameter ++ peer ∷ bytes)
 
 abbrev pub clocks : ℕ → List ℕ
-clocks at = field 0x26 (reading at)
+clocks at = asks tape.Clock (reading at)
 
 -- APDUs: a kind, an id, an operation, and fields.
 
@@ -163,37 +175,46 @@ of_network = hex "03D9EEC1"
 
 -- The records of a sheet.
 
-abbrev pub done : List ℕ
-done = field 0x33 []
-
-abbrev pub refusal : ℕ → List ℕ
-refusal number = field 0x32 (number ∷ [])
-
-abbrev pub sends : ℕ → List ℕ → List ℕ
-sends peer apdu = field 0x30 (peer ∷ apdu)
+abbrev pub says : SheetTag → List ℕ → List ℕ
+says tag value = field (sheet_tag_number tag) value
 
 -- of the dialogue with a name
+abbrev pub reports : ReportKind → ℕ → List ℕ → List ℕ
+reports kind name told = says sheet.Reported (report_kind_number kind ∷ two name ++ told)
+
+abbrev pub fails : ℕ → CauseKind → ℕ → List ℕ
+fails name kind number = reports report.Failure name (cause_kind_number kind ∷ number ∷ [])
+
+abbrev pub done : List ℕ
+done = says sheet.Done []
+
+abbrev pub refusal : ℕ → List ℕ
+refusal number = says sheet.Refused (number ∷ [])
+
+abbrev pub sends : ℕ → List ℕ → List ℕ
+sends peer apdu = says sheet.Sent (peer ∷ apdu)
+
 abbrev pub gives_challenge : ℕ → List ℕ → List ℕ
-gives_challenge name given = field 0x31 (1 ∷ two name ++ given)
+gives_challenge name given = reports report.Challenge name given
 
 abbrev pub found_correct : ℕ → List ℕ
-found_correct name = field 0x31 (2 ∷ two name ++ 0 ∷ [])
+found_correct name = reports report.Verdict name (0 ∷ [])
 
 abbrev pub found_incorrect : ℕ → List ℕ
-found_incorrect name = field 0x31 (2 ∷ two name ++ 1 ∷ [])
+found_incorrect name = reports report.Verdict name (1 ∷ [])
 
 abbrev pub failed_by_error : ℕ → ℕ → List ℕ
-failed_by_error name code = field 0x31 (3 ∷ two name ++ 1 ∷ code ∷ [])
+failed_by_error name code = fails name cause.Error code
 
 abbrev pub failed_by_reject : ℕ → ℕ → List ℕ
-failed_by_reject name problem = field 0x31 (3 ∷ two name ++ 2 ∷ problem ∷ [])
+failed_by_reject name problem = fails name cause.Reject problem
 
 -- a timer by its number: T1 to T5 are 1 to 5, TR is 6
 abbrev pub expired : ℕ → ℕ → List ℕ
-expired name timer = field 0x31 (3 ∷ two name ++ 3 ∷ timer ∷ [])
+expired name timer = fails name cause.Expiry timer
 
 abbrev pub responds : ℕ → List ℕ → List ℕ
-responds name bytes = field 0x31 (4 ∷ two name ++ bytes)
+responds name bytes = reports report.Response name bytes
 
 -- How cases begin.
 
@@ -272,9 +293,9 @@ cases =
     -- a reply that has not 14 bytes and a delivery that has not 25 are refused with 5, although their reading is before the last
     ∷ (in_service cannot
     ++ (clocks 1000, done)
-    ∷ (field 0x24 (reading 0 ++ two 1 ++ 1 ∷ 2 ∷ 3 ∷ []), refusal 5)
-    ∷ (field 0x24 (reading 0 ++ two 1 ++ 1 ∷ 2 ∷ 3 ∷ 4 ∷ 5 ∷ []), refusal 5)
-    ∷ (field 0x25 (reading 0 ++ drawn ++ parameter), refusal 5)
+    ∷ (asks tape.Reply (reading 0 ++ two 1 ++ 1 ∷ 2 ∷ 3 ∷ []), refusal 5)
+    ∷ (asks tape.Reply (reading 0 ++ two 1 ++ 1 ∷ 2 ∷ 3 ∷ 4 ∷ 5 ∷ []), refusal 5)
+    ∷ (asks tape.Delivery (reading 0 ++ drawn ++ parameter), refusal 5)
     ∷ (replies 0 1 (1 ∷ 2 ∷ 3 ∷ 4 ∷ []), refusal 2)
     ∷ (delivers 0 6 [], refusal 2)
     ∷ [])
@@ -290,7 +311,7 @@ cases =
     -- a subscriber is no fit-out
     ∷ ((subscribes here "12345", refusal 10) ∷ [])
     -- 4 goes before 7, and a key of fifteen bytes is a wrong size
-    ∷ (in_service cannot ++ (subscribes at_server "12345", done) ∷ (subscribes 3 "12345", refusal 4) ∷ (field 0x12 (0 ∷ replicate 15 7), refusal 5) ∷ [])
+    ∷ (in_service cannot ++ (subscribes at_server "12345", done) ∷ (subscribes 3 "12345", refusal 4) ∷ (asks tape.Subscriber (0 ∷ replicate 15 7), refusal 5) ∷ [])
     -- each of the four requests ends with a timer of its own, whose number is reported; a millisecond before, the clock is quiet
     ∷ (in_service cannot
     ++ (initiates 1000 "200", sends 5 (invoke 1 auth_wtm_user (user "200")))
@@ -331,7 +352,7 @@ cases =
     ∷ ((fits_out 15000 cannot, done)
     ∷ (initiates_with_values 1000 "200", refusal 4)
     ∷ (asks_for_proof 1000 "", refusal 4)
-    ∷ (field 0x23 (reading 1000 ++ 1 ∷ 2 ∷ []), refusal 5)
+    ∷ (asks tape.NetworkProof (reading 1000 ++ 1 ∷ 2 ∷ []), refusal 5)
     ∷ [])
     -- an initiation with values: the server's unit goes to the peer under one more number, a session is no answer; then the verdict
     ∷ (in_service cannot

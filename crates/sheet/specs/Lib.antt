@@ -1,7 +1,6 @@
 pub mod Adds
-pub mod Records
 pub mod Bench
-pub mod Lines
+pub mod Outcomes
 pub mod Run
 pub mod Cases
 pub mod Laws

@@ -2,13 +2,7 @@
 #![tactic(auto)]
 
 mod bench;
-pub mod causes;
-mod lines;
-mod numbers;
-mod record;
-pub mod reports;
+mod outcomes;
 mod run;
 
-pub use lines::Answer;
-pub use record::{Initiation, Record};
 pub use run::sheet;

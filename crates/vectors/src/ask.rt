@@ -4,14 +4,15 @@ use algorithm::{Algorithm, Direction, Operator, answer};
 use anyhow::{Result, bail};
 use std::fmt;
 use std::str::SplitWhitespace;
+use values::{Challenge, Parameter, Response, SessionKey, UserKey};
 
 // A value that is compared.
 #[derive(Clone, Copy)]
 pub(crate) enum Value {
     Number(u8),
-    Response([u8; 4]),
+    Response(Response),
     Block([u8; 8]),
-    Session([u8; 16]),
+    Session(SessionKey),
 }
 
 impl fmt::Display for Value {
@@ -37,18 +38,18 @@ pub(crate) enum Question {
     Number,
     Session {
         direction: Direction,
-        key: [u8; 16],
-        parameter: [u8; 8],
+        key: UserKey,
+        parameter: Parameter,
     },
     Response {
-        session: [u8; 16],
-        challenge: [u8; 8],
+        session: SessionKey,
+        challenge: Challenge,
     },
     Answer {
         direction: Direction,
-        key: [u8; 16],
-        parameter: [u8; 8],
-        challenge: [u8; 8],
+        key: UserKey,
+        parameter: Parameter,
+        challenge: Challenge,
     },
 }
 
@@ -67,18 +68,18 @@ impl Question {
             "number" => Ok(Question::Number),
             "session" => Ok(Question::Session {
                 direction: words::direction(rest)?,
-                key: words::key(rest)?,
-                parameter: words::block(rest)?,
+                key: words::bytes(rest)?,
+                parameter: words::bytes(rest)?,
             }),
             "response" => Ok(Question::Response {
-                session: words::key(rest)?,
-                challenge: words::block(rest)?,
+                session: words::bytes(rest)?,
+                challenge: words::challenge(rest)?,
             }),
             "answer" => Ok(Question::Answer {
                 direction: words::direction(rest)?,
-                key: words::key(rest)?,
-                parameter: words::block(rest)?,
-                challenge: words::block(rest)?,
+                key: words::bytes(rest)?,
+                parameter: words::bytes(rest)?,
+                challenge: words::challenge(rest)?,
             }),
             _ => bail!("a line begins with another word"),
         }

@@ -69,7 +69,7 @@ impl Setup {
             return Ok(None);
         }
         if kind == "masks" {
-            self.masks = [words::block(&mut rest)?, words::block(&mut rest)?];
+            self.masks = [words::bytes(&mut rest)?, words::bytes(&mut rest)?];
             words::end(&mut rest)?;
             return Ok(None);
         }
@@ -89,16 +89,13 @@ impl Setup {
     fn value(&mut self, kind: &str, rest: &mut SplitWhitespace) -> Result<Value> {
         match kind {
             "encipher" => {
-                let key = words::key(rest)?;
-                Ok(Value::Block(encipher(&key, &words::block(rest)?)))
+                let key = words::bytes(rest)?;
+                Ok(Value::Block(encipher(&key, &words::bytes(rest)?)))
             }
             "row" => {
-                let challenge = words::block(rest)?;
-                let response = words::response(rest)?;
-                Ok(Value::Number(self.enter(Row {
-                    challenge,
-                    response,
-                })?))
+                let challenge = words::challenge(rest)?;
+                let response = words::bytes(rest)?;
+                Ok(Value::Number(self.enter(Row::new(challenge, response))?))
             }
             _ => {
                 let asked = words::next_word(rest)?;

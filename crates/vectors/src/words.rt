@@ -3,6 +3,7 @@ use algorithm::Direction;
 use anyhow::{Context, Result, bail};
 use hex::FromHex;
 use std::str::SplitWhitespace;
+use values::Challenge;
 
 pub(crate) fn next_word<'a>(words: &mut SplitWhitespace<'a>) -> Result<&'a str> {
     words.next().context("a word is missing")
@@ -15,16 +16,13 @@ pub(crate) fn end(words: &mut SplitWhitespace) -> Result<()> {
     Ok(())
 }
 
-pub(crate) fn key(words: &mut SplitWhitespace) -> Result<[u8; 16]> {
-    Ok(<[u8; 16]>::from_hex(next_word(words)?)?)
+// The bytes that a word has in hexadecimal.
+pub(crate) fn bytes<const N: usize>(words: &mut SplitWhitespace) -> Result<[u8; N]> {
+    Ok(<[u8; N]>::from_hex(next_word(words)?)?)
 }
 
-pub(crate) fn block(words: &mut SplitWhitespace) -> Result<[u8; 8]> {
-    Ok(<[u8; 8]>::from_hex(next_word(words)?)?)
-}
-
-pub(crate) fn response(words: &mut SplitWhitespace) -> Result<[u8; 4]> {
-    Ok(<[u8; 4]>::from_hex(next_word(words)?)?)
+pub(crate) fn challenge(words: &mut SplitWhitespace) -> Result<Challenge> {
+    Ok(Challenge::new(bytes(words)?))
 }
 
 pub(crate) fn direction(words: &mut SplitWhitespace) -> Result<Direction> {

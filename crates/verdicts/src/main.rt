@@ -3,17 +3,17 @@
 // invoke that is due a reject; or garbled.
 #![tactic(auto)]
 
-mod verdict;
+mod received_as;
 
+use received_as::ReceivedAs;
 use std::io::Read;
-use verdict::Verdict;
 use wire::Reader;
 
 fn main(rt: HostRuntime) -> anyhow::Result<()> {
     let mut input = Vec::new(rt.alloc());
     rt.stdin().read_to_end(&mut input)?;
     for string in Reader::new(&input) {
-        println!(rt; "{}", Verdict(apdu::read(string.value)))?;
+        println!(rt; "{}", ReceivedAs(apdu::read(string.value)))?;
     }
     Ok(())
 }

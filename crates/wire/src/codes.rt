@@ -10,9 +10,13 @@ pub struct UnknownNumber(pub u8);
 /// The kinds of an APDU, by their numbers.
 #[derive(Clone, Copy, PartialEq, Eq, Debug)]
 pub enum Kind {
+    /// Asks for an operation.
     Invoke = 1,
+    /// Answers an invoke by what it asked for.
     ReturnResult = 2,
+    /// Answers an invoke by an error: it was understood, and is not served.
     ReturnError = 3,
+    /// Answers an invoke that was not understood.
     Reject = 4,
 }
 
@@ -40,21 +44,37 @@ impl TryFrom<u8> for Kind {
     }
 }
 
-/// What an invoke asks for, by its number.
+/// Who is asked for a user's parameters: Home, or the authentication server.
+#[derive(Clone, Copy, PartialEq, Eq, Debug)]
+pub enum Provider {
+    /// The user's home exchange.
+    Home,
+    /// The authentication server.
+    Server,
+}
+
+/// What an invoke asks for: by number 1 authWtmUser, 2 getWtatParam, 3 wtatParamEnq, 4 getWtanParam, 5 wtanParamEnq.
 #[derive(Clone, Copy, PartialEq, Eq, Debug)]
 pub enum Operation {
-    AuthWtmUser = 1,
-    GetWtatParam = 2,
-    WtatParamEnq = 3,
-    GetWtanParam = 4,
-    WtanParamEnq = 5,
+    /// authWtmUser: that a user is authenticated.
+    AuthWtmUser,
+    /// What a user can be checked by: getWtatParam asks Home, wtatParamEnq the server.
+    WtatParam(Provider),
+    /// What the network can prove itself by: getWtanParam asks Home, wtanParamEnq the server.
+    WtanParam(Provider),
 }
 
 impl From<Operation> for u8 {
     ghost from_gives = { λ operation n. n ≡ operation_number operation };
 
     fn from(operation: Operation) -> u8 {
-        operation as u8
+        match operation {
+            Operation::AuthWtmUser => 1,
+            Operation::WtatParam(Provider::Home) => 2,
+            Operation::WtatParam(Provider::Server) => 3,
+            Operation::WtanParam(Provider::Home) => 4,
+            Operation::WtanParam(Provider::Server) => 5,
+        }
     }
 }
 
@@ -66,10 +86,10 @@ impl TryFrom<u8> for Operation {
     fn try_from(number: u8) -> Result<Operation, UnknownNumber> {
         match number {
             1 => Ok(Operation::AuthWtmUser),
-            2 => Ok(Operation::GetWtatParam),
-            3 => Ok(Operation::WtatParamEnq),
-            4 => Ok(Operation::GetWtanParam),
-            5 => Ok(Operation::WtanParamEnq),
+            2 => Ok(Operation::WtatParam(Provider::Home)),
+            3 => Ok(Operation::WtatParam(Provider::Server)),
+            4 => Ok(Operation::WtanParam(Provider::Home)),
+            5 => Ok(Operation::WtanParam(Provider::Server)),
             _ => Err(UnknownNumber(number)),
         }
     }
@@ -78,7 +98,9 @@ impl TryFrom<u8> for Operation {
 /// Whether a user's response was the expected one.
 #[derive(Clone, Copy, PartialEq, Eq, Debug)]
 pub enum Verdict {
+    /// It was.
     Correct = 0,
+    /// It was another.
     Incorrect = 1,
 }
 
@@ -107,10 +129,15 @@ impl TryFrom<u8> for Verdict {
 /// Why an invoke is answered by an error.
 #[derive(Clone, Copy, PartialEq, Eq, Debug)]
 pub enum ErrorCode {
+    /// Whoever was asked has no record of the user.
     InvalidServedUserNr = 1,
+    /// What was asked for cannot be given or computed.
     ParamNotAvailable = 2,
+    /// There is no place or number for a dialogue, or an answer did not come in time.
     TemporarilyUnavailable = 3,
+    /// The user may not use the service.
     NotAuthorized = 4,
+    /// For another reason.
     Unspecified = 5,
 }
 
@@ -142,9 +169,9 @@ impl TryFrom<u8> for ErrorCode {
 /// Why an invoke is answered by a reject. A reject that is received may have any number.
 #[derive(Clone, Copy, PartialEq, Eq, Debug)]
 pub enum Problem {
-    // No operation has this number.
+    /// No operation has this number.
     UnknownOperation = 1,
-    // What follows the operation is not what the operation has.
+    /// What follows the operation is not what the operation has.
     WrongArgument = 2,
 }
 

@@ -7,7 +7,9 @@ ghost use Rattle.wire.specs.Fields.{next_field, value, after, unread, is_nothing
 /// A tag and its value, of at most 65,535 bytes.
 #[derive(Clone, Copy)]
 pub struct Field<'a> {
+    /// Which field it is: one byte.
     pub tag: u8,
+    /// What stands behind its length.
     pub value: &'a [u8],
 }
 
@@ -48,7 +50,12 @@ impl<'a> Reader<'a> {
 impl<'a> Iterator for Reader<'a> {
     type Item = Field<'a>;
 
-    ghost next_gives = { λ before result left. MatchOption result ((next_field (unread before) ≡ None) × (unread left ≡ unread before)) (λ f. next_field (unread before) ≡ Some (record { tag = f.tag; value = f.value.now; rest = unread left })) };
+    ghost next_gives = { λ before result left.
+        MatchOption result
+        ((next_field (unread before) ≡ None) × (unread left ≡ unread before))
+        (λ f.
+        next_field (unread before)
+        ≡ Some (record { tag = f.tag; value = f.value.now; rest = unread left })) };
 
     ghost remaining = { λ reader. at_most (length (unread reader)) };
 

@@ -1,4 +1,4 @@
-use Rattle.apdu_c.proofs.Back.{flat_reads_back}
+use Rattle.apdu_c.proofs.FlatReadsBack.{flat_reads_back}
 use Rattle.apdu_c.proofs.apdu_read.Goals as goal
 
 pub returns-in-Ok-clause-back : goal.returns-in-Ok-clause-back

@@ -4,5 +4,5 @@ use Rattle.algorithm.proofs.found.row_for.Goals as goal
 
 pub returns : goal.returns
 returns c =
-    let first = first_row c.args.rows.now c.args.challenge.now (record { long = c.told-challenge; small = c.fits-challenge }) in
+    let first = first_row c.args.rows.now c.args.challenge.now c.challenge_key.ensures.whole in
     search (rules, first)

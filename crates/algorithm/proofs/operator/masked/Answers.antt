@@ -8,6 +8,9 @@ pub returns : goal.returns
 returns c =
     let challenge = c.args.challenge.now in
     let mask = c.args.mask.now in
+    let whole = c.block-changed.ensures.whole.long in
+    let size = c.loop-i.invariant.long in
     let long = length_masked challenge mask in
-    same_number_lists c.loop-i.changed (masked challenge mask) (omega (arith, c.loop-i.invariant.long, c.told-challenge, long))
-    (λ k h. c.loop-i.invariant.done k (omega (arith, c.loop-i.invariant.long)) ∙ sym (get_or_masked challenge mask k (omega (arith, c.told-challenge, c.loop-i.invariant.long)) (omega (arith, c.told-mask, c.loop-i.invariant.long))))
+    c.new.ensures
+    ∙ same_number_lists c.loop-i.changed (masked challenge mask) (omega (arith, size, whole, long))
+    (λ k h. c.loop-i.invariant.done k (omega (arith, size)) ∙ sym (get_or_masked challenge mask k (omega (arith, whole, size)) (omega (arith, c.told-mask, size))))

@@ -3,7 +3,7 @@ use Rattle.exchange.specs.FitOut.{fitted}
 use Rattle.exchange.proofs.Balanced.{always_balanced}
 use Rattle.exchange.proofs.Genuine.{always_genuine}
 use Rattle.exchange.proofs.Moves.{always_moves, always_tells_verdicts}
-use Rattle.exchange.proofs.Lowest.{always_refuses}
+use Rattle.exchange.proofs.Conditions.{always_refuses}
 use Rattle.exchange.proofs.Refuted.{wrong_machines_are_refuted}
 use Rattle.exchange.proofs.Routes.{routes_run}
 use Rattle.exchange.proofs.fit_out.FitOut.enter_service.Goals as goal

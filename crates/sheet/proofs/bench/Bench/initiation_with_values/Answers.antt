@@ -1,0 +1,7 @@
+use Rattle.std.proofs.Common.{rules}
+use Rattle.algorithm.specs.Xtea.{xtea_meaning}
+use Rattle.sheet.proofs.bench.Bench.initiation_with_values.Goals as goal
+
+-- a call that asks no algorithm means the same by every meaning
+pub returns : goal.returns
+returns c = let value = c.initiation_with_values.ensures.value xtea_meaning in search rules

@@ -1,4 +1,0 @@
-pub mod Powers
-pub mod Digits
-pub mod Numbers
-mod Keys

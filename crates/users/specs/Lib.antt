@@ -1,2 +1,0 @@
-pub mod Users
-pub mod Laws

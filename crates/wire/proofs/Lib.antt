@@ -1,0 +1,5 @@
+pub mod Writes
+pub mod DigitLemmas
+pub mod Options
+pub mod FieldLemmas
+pub mod ValueLemmas
