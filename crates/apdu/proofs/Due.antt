@@ -6,7 +6,7 @@ use Rattle.wire.specs.declared.codes.Kind.TheVariants as kind
 use Rattle.wire.specs.declared.codes.Operation.{Operation}
 use Rattle.wire.specs.declared.codes.Problem.{Problem}
 use Rattle.apdu.specs.declared.apdus.Apdu.{Apdu}
-use Rattle.apdu.specs.declared.apdus.NoApdu.{NoApdu}
+use Rattle.apdu.specs.NoApdu.{NoApdu}
 use Rattle.apdu.specs.declared.apdus.NoApdu.TheVariants.{RejectDue, Garbled}
 use Rattle.apdu.specs.declared.apdus.Body.TheVariants as body
 use Rattle.wire.specs.Codes.{operation_of}

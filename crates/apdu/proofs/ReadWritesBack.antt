@@ -20,6 +20,7 @@ use Rattle.apdu.specs.declared.apdus.Body.{Body}
 use Rattle.apdu.specs.declared.apdus.Body.TheVariants as body
 use Rattle.apdu.specs.declared.apdus.Invoke.{Invoke}
 use Rattle.apdu.specs.declared.apdus.ReturnResult.{ReturnResult}
+use Rattle.apdu.specs.NoApdu.{NoApdu}
 use Rattle.apdu.specs.declared.apdus.NoApdu.TheVariants.{Garbled, RejectDue}
 use Rattle.apdu.specs.Decode.{operation_in, argument_in, invoke_numbered, invoke_with, result_in, result_map, body_in, body_after, with_id, kind_in}
 use Rattle.apdu.specs.Encode.{head, operation_field, kind_of_body, argument_bytes, body_bytes, encode}
@@ -62,7 +63,7 @@ invoke_back i (Some n) bs y b h e =
     record { kind = refl; bytes = whole; holds = q.holds }
 
 -- an answer, as the body that it makes
-answer_by : {B : Type 0} (make : B → Body) (k : Kind) (bs : List ℕ) (y : Body) (o : Option B) → ((x : B) → o ≡ Some x → Follows k bs (make x)) → ok_or (option_map make o) Garbled ≡ Ok y → Follows k bs y
+answer_by : {B : Type 0} (make : B → Body) (k : Kind) (bs : List ℕ) (y : Body) (o : Option B) → ((x : B) → o ≡ Some x → Follows k bs (make x)) → ok_or {E = NoApdu} (option_map make o) Garbled ≡ Ok y → Follows k bs y
 answer_by make k bs y o f e =
     let q = mapped_back make o y (ok_or_back (option_map make o) Garbled y e) in
     subst (Follows k bs) q.1.1 (f q.0 q.1.0)

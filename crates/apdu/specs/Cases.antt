@@ -15,7 +15,7 @@ use Rattle.apdu.specs.declared.apdus.ReturnResult.TheVariants as answer
 use Rattle.apdu.specs.declared.apdus.Body.{Body}
 use Rattle.apdu.specs.declared.apdus.Body.TheVariants as body
 use Rattle.apdu.specs.declared.apdus.Apdu.{Apdu}
-use Rattle.apdu.specs.declared.apdus.NoApdu.{NoApdu}
+use Rattle.apdu.specs.NoApdu.{NoApdu}
 use Rattle.apdu.specs.declared.apdus.NoApdu.TheVariants.{RejectDue, Garbled}
 use Rattle.apdu.specs.Decode.{received_as}
 use Rattle.apdu.specs.Encode.{encode}

@@ -16,7 +16,7 @@ use Rattle.apdu.specs.declared.apdus.Body.{Body}
 use Rattle.apdu.specs.declared.apdus.Body.TheVariants as body
 use Rattle.apdu.specs.declared.apdus.Invoke.{Invoke}
 use Rattle.apdu.specs.declared.apdus.ReturnResult.{ReturnResult}
-use Rattle.apdu.specs.declared.apdus.NoApdu.{NoApdu}
+use Rattle.apdu.specs.NoApdu.{NoApdu}
 use Rattle.apdu.specs.declared.apdus.NoApdu.TheVariants.{RejectDue, Garbled}
 use Rattle.apdu.specs.Grammar.{return_error, reject}
 use Rattle.apdu.specs.Operations.{request_of, result_of}

@@ -1,6 +1,7 @@
 pub mod Shapes
 pub mod Grammar
 pub mod Operations
+pub mod NoApdu
 pub mod Decode
 pub mod Encode
 pub mod Laws

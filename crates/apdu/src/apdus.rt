@@ -131,13 +131,14 @@ pub struct Apdu {
     pub body: Body,
 }
 
-/// Why a string of bytes is no APDU.
+/// Why a string of bytes is no APDU. The id is a parameter of the type, so that a host may take apart by value what `read` gives:
+/// docs/DECISIONS.md has the reason. It is always an `InvokeId`.
 #[derive(Clone, Copy, PartialEq, Eq, Debug)]
-pub enum NoApdu {
+pub enum NoApdu<I = InvokeId> {
     /// It is an invoke to be answered by a reject with this problem.
     RejectDue {
         /// The id of the invoke.
-        id: InvokeId,
+        id: I,
         /// What is wrong with it.
         problem: Problem,
     },

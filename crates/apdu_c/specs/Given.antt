@@ -1,5 +1,5 @@
 -- The APDU that the fields from C make.
-use Rattle.std.specs.Prelude.{ℕ, ◌+◌, true, Some, None, Option, ◌==◌, if◌then◌else◌}
+use Rattle.std.specs.Prelude.{ℕ, ◌+◌, true, List, Some, None, Option, ◌==◌, if◌then◌else◌}
 use Rattle.std.specs.Option.{option_map}
 use Rattle.std.specs.Bool.{then_some}
 use Rattle.wire.specs.Codes.{kind_of, operation_of}
@@ -16,6 +16,7 @@ use Rattle.apdu.specs.declared.apdus.Body.TheVariants as body
 use Rattle.apdu.specs.declared.apdus.Invoke.{Invoke}
 use Rattle.apdu.specs.declared.apdus.Request.{Request}
 use Rattle.apdu.specs.declared.apdus.ReturnResult.{ReturnResult}
+use Rattle.apdu.specs.Decode.{with_id}
 use Rattle.apdu_c.specs.declared.fields.Fields.{Fields}
 use Rattle.apdu_c.specs.Flat.{body_parts}
 use Rattle.apdu_c.specs.Forms.{Form, request_parts, given_request, result_parts, given_result, return_error, reject}
@@ -83,3 +84,12 @@ fitting_result f = do
   operation ← operation_of f.operation
   result ← given_result operation f
   then_some (f.present == present_bits (result_parts result)) result
+
+-- the APDU with this id and with a body made of what the fields give, if they give it
+abbrev pub apdu_with : {X : Type 0} → ℕ → (X → Body) → Option X → Option Apdu
+apdu_with id make given = option_map (λ x. with_id id (make x)) given
+
+-- the buffer after an APDU is handed on with it; as it was, if there is no APDU
+abbrev pub left_for : (Apdu → List ℕ → List ℕ) → Option Apdu → List ℕ → List ℕ
+left_for leaves None out = out
+left_for leaves (Some a) out = leaves a out

@@ -12,8 +12,9 @@ mod flat;
 mod given;
 mod part;
 
-use apdu::{Apdu, LEAST_BUFFER, read, write};
+use apdu::{LEAST_BUFFER, read};
 pub use fields::Fields;
+use given::Written;
 use refusal::Refusal;
 
 /// Sets the struct to the fields of the APDU that the bytes are, and returns 0. Bytes that are no APDU
@@ -42,10 +43,7 @@ fn write_fields(fields: &Fields, out: &mut [u8]) -> Result<usize, Refusal>
     if out.len() < LEAST_BUFFER {
         return Err(Refusal::ShortSheet);
     }
-    match Apdu::try_from(fields) {
-        Ok(apdu) => write(&apdu, out),
-        Err(refusal) => Err(refusal),
-    }
+    fields.hand_on::<Written>(out).ok_or(Refusal::Garbled)
 }
 
 /// Writes the APDU that the fields make to the front of the buffer, whose rest stays as it was, sets

@@ -6,7 +6,7 @@ use Rattle.wire.specs.declared.codes.Provider.{Provider}
 use Rattle.wire.specs.declared.codes.Provider.TheVariants.{Home}
 use Rattle.values.specs.Draw.{drawn_challenge, drawn_parameter}
 use Rattle.apdu.specs.declared.apdus.Apdu.{Apdu}
-use Rattle.apdu.specs.declared.apdus.NoApdu.{NoApdu}
+use Rattle.apdu.specs.NoApdu.{NoApdu}
 use Rattle.apdu.specs.declared.apdus.NoApdu.TheVariants.{RejectDue, Garbled}
 use Rattle.apdu.specs.declared.apdus.Body.{Body}
 use Rattle.apdu.specs.declared.apdus.Body.TheVariants as body

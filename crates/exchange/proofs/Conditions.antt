@@ -18,7 +18,7 @@ use Rattle.values.specs.Draw.{drawn_challenge}
 use Rattle.values.specs.Sizes.{challenge_size, draw_size, response_size}
 use Rattle.values.specs.User.{user_number}
 use Rattle.apdu.specs.declared.apdus.Apdu.{Apdu}
-use Rattle.apdu.specs.declared.apdus.NoApdu.{NoApdu}
+use Rattle.apdu.specs.NoApdu.{NoApdu}
 use Rattle.apdu.specs.declared.apdus.NoApdu.TheVariants as no_apdu
 use Rattle.apdu.specs.declared.apdus.Body.{Body}
 use Rattle.apdu.specs.declared.apdus.Body.TheVariants as body
@@ -45,7 +45,7 @@ use Rattle.exchange.specs.declared.handling.Handling.TheVariants.{Answer}
 use Rattle.exchange.specs.declared.invokes.Asked.{Asked}
 use Rattle.exchange.specs.declared.invokes.OwnNumber.{OwnNumber}
 use Rattle.exchange.specs.declared.invokes.Owed.{Owed}
-use Rattle.exchange.specs.declared.outcome.Done.{Done}
+use Rattle.exchange.specs.Done.{Done}
 use Rattle.exchange.specs.declared.outcome.Outcome.{Outcome}
 use Rattle.exchange.specs.declared.outcome.Report.{Report}
 use Rattle.exchange.specs.declared.service.Service.{Service}

@@ -19,7 +19,7 @@ use Rattle.apdu.specs.declared.apdus.WtatInfo.TheVariants as info
 use Rattle.apdu.specs.declared.apdus.WtanParamRes.{WtanParamRes}
 use Rattle.apdu.specs.declared.apdus.WtanParamRes.TheVariants as proof
 use Rattle.apdu.specs.declared.apdus.Apdu.{Apdu}
-use Rattle.apdu.specs.declared.apdus.NoApdu.{NoApdu}
+use Rattle.apdu.specs.NoApdu.{NoApdu}
 use Rattle.apdu.specs.declared.apdus.NoApdu.TheVariants.{RejectDue, Garbled}
 use Rattle.apdu.specs.declared.apdus.Body.{Body}
 use Rattle.apdu.specs.declared.apdus.Body.TheVariants as body

@@ -6,7 +6,7 @@ use Rattle.wire.specs.declared.codes.Verdict.{Verdict}
 use Rattle.wire.specs.Fronts.{front}
 use Rattle.apdu.specs.declared.apdus.Apdu.{Apdu}
 use Rattle.apdu.specs.declared.apdus.Body.{Body}
-use Rattle.apdu.specs.declared.apdus.NoApdu.{NoApdu}
+use Rattle.apdu.specs.NoApdu.{NoApdu}
 use Rattle.apdu.specs.Decode.{received_as}
 use Rattle.apdu.specs.Encode.{encode}
 use Rattle.apdu.specs.Laws.{IsApdu}

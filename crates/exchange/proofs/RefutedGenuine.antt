@@ -19,7 +19,7 @@ use Rattle.entries.specs.declared.subscriber.Subscriber.{Subscriber}
 use Rattle.exchange.specs.declared.dialogue.Dialogue.{Dialogue}
 use Rattle.exchange.specs.declared.invokes.Owed.{Owed}
 use Rattle.exchange.specs.declared.invokes.OwnNumber.{OwnNumber}
-use Rattle.exchange.specs.declared.outcome.Done.{Done}
+use Rattle.exchange.specs.Done.{Done}
 use Rattle.exchange.specs.declared.outcome.Done.TheVariants.{Quiet, Reported}
 use Rattle.exchange.specs.declared.outcome.Report.TheVariants as report
 use Rattle.exchange.specs.declared.service.Service.{Service}

@@ -24,7 +24,7 @@ use Rattle.apdu.specs.declared.apdus.Request.TheVariants.{WtatParam}
 use Rattle.apdu.specs.declared.apdus.Apdu.{Apdu}
 use Rattle.apdu.specs.declared.apdus.Body.{Body}
 use Rattle.apdu.specs.declared.apdus.Body.TheVariants as body
-use Rattle.apdu.specs.declared.apdus.NoApdu.{NoApdu}
+use Rattle.apdu.specs.NoApdu.{NoApdu}
 use Rattle.apdu.specs.Decode.{received_as}
 use Rattle.apdu.specs.Laws.{IsWtatParamArg, IsRequest, IsInvoke, IsBody, IsApdu}
 use Rattle.apdu.proofs.ReadWritesBack.{read_writes_back}

@@ -17,7 +17,7 @@ use Rattle.apdu.specs.declared.apdus.ReturnResult.TheVariants.{WtatParam}
 use Rattle.apdu.specs.declared.apdus.Apdu.{Apdu}
 use Rattle.apdu.specs.declared.apdus.Body.{Body}
 use Rattle.apdu.specs.declared.apdus.Body.TheVariants as body
-use Rattle.apdu.specs.declared.apdus.NoApdu.{NoApdu}
+use Rattle.apdu.specs.NoApdu.{NoApdu}
 use Rattle.apdu.specs.Decode.{received_as}
 use Rattle.algorithm.specs.Meaning.{Meaning}
 use Rattle.entries.specs.declared.subscriber.Subscriber.{Subscriber}

@@ -13,7 +13,7 @@ use Rattle.apdu.specs.declared.apdus.Request.TheVariants as request
 use Rattle.apdu.specs.declared.apdus.ReturnResult.{ReturnResult}
 use Rattle.apdu.specs.declared.apdus.ReturnResult.TheVariants.{WtatParam, WtanParam}
 use Rattle.apdu.specs.declared.apdus.Apdu.{Apdu}
-use Rattle.apdu.specs.declared.apdus.NoApdu.{NoApdu}
+use Rattle.apdu.specs.NoApdu.{NoApdu}
 use Rattle.apdu.specs.declared.apdus.Body.{Body}
 use Rattle.apdu.specs.declared.apdus.Body.TheVariants as body
 use Rattle.apdu.specs.Decode.{received_as}

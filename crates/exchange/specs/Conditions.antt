@@ -22,7 +22,7 @@ use Rattle.wire.specs.declared.codes.Provider.TheVariants.{Home, Server}
 use Rattle.algorithm.specs.Meaning.{Meaning}
 use Rattle.entries.specs.declared.link.Link.{Link}
 use Rattle.exchange.specs.declared.dialogue.Dialogue.{Dialogue}
-use Rattle.exchange.specs.declared.outcome.Done.{Done}
+use Rattle.exchange.specs.Done.{Done}
 use Rattle.exchange.specs.declared.service.Service.{Service}
 use Rattle.exchange.specs.declared.state.State.{State}
 use Rattle.exchange.specs.declared.state.State.TheVariants.{FetchingForInitiation, Initiating, FetchingForVisitor, Requesting, Executing, RequestingProof, FetchingProof}

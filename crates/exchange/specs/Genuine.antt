@@ -15,7 +15,7 @@ use Rattle.wire.specs.declared.codes.Provider.TheVariants.{Home}
 use Rattle.apdu.specs.declared.apdus.Body.{Body}
 use Rattle.apdu.specs.declared.apdus.Body.TheVariants as body
 use Rattle.apdu.specs.declared.apdus.Apdu.{Apdu}
-use Rattle.apdu.specs.declared.apdus.NoApdu.{NoApdu}
+use Rattle.apdu.specs.NoApdu.{NoApdu}
 use Rattle.apdu.specs.Decode.{received_as}
 use Rattle.values.specs.declared.user.User as users
 use Rattle.values.specs.Sizes.{challenge_size}
@@ -27,7 +27,7 @@ use Rattle.exchange.specs.declared.fit_out.FitOut.{FitOut}
 use Rattle.exchange.specs.declared.dialogue.Dialogue.{Dialogue}
 use Rattle.exchange.specs.declared.invokes.Owed.{Owed}
 use Rattle.exchange.specs.declared.invokes.OwnNumber.{OwnNumber}
-use Rattle.exchange.specs.declared.outcome.Done.{Done}
+use Rattle.exchange.specs.Done.{Done}
 use Rattle.exchange.specs.declared.outcome.Done.TheVariants.{Sent, Reported}
 use Rattle.exchange.specs.declared.outcome.Report.TheVariants as report
 use Rattle.exchange.specs.declared.service.Service.{Service}

@@ -7,6 +7,7 @@ pub mod Dialogue
 pub mod Table
 pub mod Service
 pub mod EnterService
+pub mod Done
 pub mod Outcome
 pub mod Calls
 pub mod Server

@@ -4,7 +4,7 @@ use Rattle.refusal.specs.declared.Refusal.{Refusal}
 use Rattle.refusal.specs.declared.Refusal.TheVariants.{ShortSheet}
 use Rattle.apdu.specs.Encode.{encode, least_buffer}
 use Rattle.wire.specs.Fronts.{front}
-use Rattle.exchange.specs.declared.outcome.Done.{Done}
+use Rattle.exchange.specs.Done.{Done}
 use Rattle.exchange.specs.declared.outcome.Done.TheVariants as done
 use Rattle.exchange.specs.declared.outcome.Outcome.{Outcome}
 use Rattle.exchange.specs.declared.outcome.Outcome.TheVariants.{Quiet, Send, Report}

@@ -8,7 +8,7 @@ use Rattle.algorithm.specs.declared.direction.Direction.TheVariants.{User}
 use Rattle.algorithm.specs.Meaning.{answered}
 use Rattle.entries.specs.declared.subscriber.KeyPlace.{KeyPlace}
 use Rattle.entries.specs.declared.subscriber.KeyPlace.TheVariants.{NoParameters, Here, Server}
-use Rattle.exchange.specs.declared.outcome.Done.{Done}
+use Rattle.exchange.specs.Done.{Done}
 use Rattle.exchange.specs.declared.outcome.Done.TheVariants.{Sent, Reported}
 use Rattle.exchange.specs.declared.outcome.Report.{Report}
 use Rattle.exchange.specs.declared.outcome.Report.TheVariants as report

@@ -5,7 +5,7 @@ use Rattle.refusal.specs.declared.Refusal.{Refusal}
 use Rattle.apdu.specs.declared.apdus.Apdu.{Apdu}
 use Rattle.apdu.specs.declared.apdus.Body.{Body}
 use Rattle.apdu.specs.declared.apdus.Body.TheVariants as body
-use Rattle.apdu.specs.declared.apdus.NoApdu.{NoApdu}
+use Rattle.apdu.specs.NoApdu.{NoApdu}
 use Rattle.apdu.specs.declared.apdus.NoApdu.TheVariants.{RejectDue, Garbled}
 use Rattle.apdu.specs.Decode.{received_as}
 use Rattle.wire.specs.Fields.{Bytes}
@@ -15,7 +15,7 @@ use Rattle.entries.specs.declared.link.Link.{Link}
 use Rattle.entries.specs.declared.subscriber.Subscriber.{Subscriber}
 use Rattle.exchange.specs.declared.dialogue.Dialogue.{Dialogue}
 use Rattle.exchange.specs.declared.invokes.OwnNumber.{OwnNumber}
-use Rattle.exchange.specs.declared.outcome.Done.{Done}
+use Rattle.exchange.specs.Done.{Done}
 use Rattle.exchange.specs.declared.outcome.Done.TheVariants.{Quiet, Sent, Reported}
 use Rattle.exchange.specs.declared.service.Service.{Service}
 use Rattle.exchange.specs.Calls.{initiated, initiated_with_values, visitor_started, proof_requested, clocked}

@@ -7,7 +7,7 @@ use Rattle.exchange.specs.declared.invokes.OwnNumber.{OwnNumber}
 use Rattle.exchange.specs.declared.invokes.Owed.{Owed}
 use Rattle.exchange.specs.declared.state.State.{State}
 use Rattle.exchange.specs.declared.state.State.TheVariants.{Executing}
-use Rattle.exchange.specs.declared.outcome.Done.{Done}
+use Rattle.exchange.specs.Done.{Done}
 use Rattle.exchange.specs.declared.outcome.Done.TheVariants.{Quiet, Sent, Reported}
 use Rattle.exchange.specs.declared.outcome.Report.TheVariants as report
 use Rattle.exchange.specs.declared.service.Service.{Service}

@@ -8,7 +8,7 @@ use Rattle.exchange.specs.declared.fit_out.FitOut.{FitOut}
 use Rattle.exchange.specs.declared.invokes.Asked.{Asked}
 use Rattle.exchange.specs.declared.invokes.OwnNumber.{OwnNumber}
 use Rattle.exchange.specs.declared.invokes.Owed.{Owed}
-use Rattle.exchange.specs.declared.outcome.Done.{Done}
+use Rattle.exchange.specs.Done.{Done}
 use Rattle.exchange.specs.declared.outcome.Done.TheVariants.{Quiet}
 use Rattle.exchange.specs.declared.outcome.Outcome.TheVariants as outcome
 use Rattle.exchange.specs.declared.service.Service.{Service}

@@ -3,7 +3,7 @@ use Rattle.std.specs.Prelude.{◌-◌, if◌then◌else◌, List, [], ◌∷◌,
 use Rattle.std.specs.Option.{option_map}
 use Rattle.refusal.specs.declared.Refusal.{Refusal}
 use Rattle.exchange.specs.declared.dialogue.Dialogue.{Dialogue}
-use Rattle.exchange.specs.declared.outcome.Done.{Done}
+use Rattle.exchange.specs.Done.{Done}
 use Rattle.exchange.specs.declared.service.Service.{Service}
 use Rattle.exchange.specs.declared.state.State.TheVariants.{Executing}
 use Rattle.exchange.specs.Outcome.{After}

@@ -5,9 +5,9 @@ use Rattle.refusal.specs.declared.Refusal.TheVariants.{ShortSheet, Garbled, Stra
 use Rattle.wire.specs.declared.codes.ErrorCode.TheVariants.{TemporarilyUnavailable}
 use Rattle.apdu.specs.declared.apdus.Apdu.{Apdu}
 use Rattle.apdu.specs.declared.apdus.Body.TheVariants.{ReturnError}
-use Rattle.apdu.specs.declared.apdus.NoApdu.{NoApdu}
+use Rattle.apdu.specs.NoApdu.{NoApdu}
 use Rattle.apdu.specs.Decode.{received_as}
-use Rattle.exchange.specs.declared.outcome.Done.{Done}
+use Rattle.exchange.specs.Done.{Done}
 use Rattle.exchange.specs.declared.outcome.Outcome.TheVariants.{Send}
 use Rattle.exchange.specs.declared.service.Service.{Service}
 use Rattle.exchange.specs.Outcome.{After, at_edge}

@@ -8,9 +8,9 @@ use Rattle.apdu.specs.declared.apdus.Body.TheVariants as body
 use Rattle.apdu.specs.declared.apdus.Request.{Request}
 use Rattle.apdu.specs.declared.apdus.Request.TheVariants as request
 use Rattle.apdu.specs.declared.apdus.ReturnResult.TheVariants.{AuthWtmUser}
-use Rattle.apdu.specs.declared.apdus.NoApdu.{NoApdu}
+use Rattle.apdu.specs.NoApdu.{NoApdu}
 use Rattle.apdu.specs.Decode.{received_as}
-use Rattle.exchange.specs.declared.outcome.Done.{Done}
+use Rattle.exchange.specs.Done.{Done}
 use Rattle.exchange.specs.declared.outcome.Done.TheVariants.{Reported}
 use Rattle.exchange.specs.declared.outcome.Outcome.TheVariants.{Send}
 use Rattle.exchange.specs.declared.outcome.Report.TheVariants as report

@@ -2,7 +2,7 @@
 ghost use Rattle.std.specs.Prelude.{◌≡◌, ◌+◌, ◌^◌, ◌<◌, ◌≤◌, None, slice_index_or};
 ghost use Rattle.exchange.specs.Table.{to_take};
 ghost use Rattle.exchange.specs.Bounds.{highest_reading, last_opening, most_dialogues};
-ghost use Rattle.exchange.specs.Service.{opened, written};
+ghost use Rattle.exchange.specs.Service.{Sound, opened, written};
 
 use crate::dialogue::Dialogue;
 use crate::invokes::OwnNumber;
@@ -30,6 +30,17 @@ impl Model for Exchange {
 }
 
 impl Exchange {
+    /// The last reading, in milliseconds, at most 2^40: no call takes a lower one. Of every exchange in service it is known that
+    /// it has 32 places for dialogues, that its numbers begin at 1, and that the numbers which open dialogues may still take end
+    /// at 60,032 (`sound`).
+    pub fn last_reading(&self) -> u64
+        ensures value { result ≡ self.now.last }
+        ensures sound { Sound self.now }
+    {
+        let last = self.service.last;
+        last
+    }
+
     // Opens a dialogue under the next number.
     pub(crate) fn open_dialogue(&mut self, reading: u64, place: usize, state: State)
         requires place { place < most_dialogues }

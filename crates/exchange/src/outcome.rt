@@ -44,9 +44,10 @@ pub(crate) enum Outcome {
     Report { name: OwnNumber, report: Report },
 }
 
-/// What a call that is not refused gives its host.
+/// What a call that is not refused gives its host. The report is a parameter of the type, so that a host may hand on a refusal
+/// by `?`: docs/DECISIONS.md has the reason. It is always a `Report`.
 #[derive(Clone, Copy)]
-pub enum Done {
+pub enum Done<R = Report> {
     /// Nothing is sent or reported, and the buffer is as it was.
     Quiet,
     /// An APDU for this peer stands at the front of the buffer, `size` bytes long, and the rest of the buffer is as it was: the
@@ -62,7 +63,7 @@ pub enum Done {
         /// The dialogue's name.
         name: OwnNumber,
         /// What is told of it.
-        report: Report,
+        report: R,
     },
 }
 

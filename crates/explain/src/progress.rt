@@ -1,8 +1,9 @@
 // How far the run found a record of a tape right, and so how much of it may be shown.
 //
 // A tape may be put together wrongly: where a time, a challenge, digits or an APDU belong, the bytes of a subscriber's
-// key may stand. So no part of a record is shown before the run has found it right, bytes that are no user number and no
-// APDU are only counted, and a draw is not shown at all. A sheet from elsewhere changes nothing of this: what is shown of a
+// key may stand. So no part of a record is shown before the run has found it right, but for a user number and for the fields
+// of an APDU without their values, whose own form is right; bytes that are neither are only counted, and a draw is not shown
+// at all. A sheet from elsewhere changes nothing of this: what is shown of a
 // tape goes by the run that is made here, and of the sheet its records are shown, and of what is no record nothing.
 //
 // What remains is a key at a place where any bytes are right, which cannot be told from what belongs there:
@@ -10,8 +11,8 @@
 // - the challenges, responses and parameters of an APDU that is taken or sent, also where they are drawn;
 // - 1 to 15 bytes that are ASCII digits, where digits belong;
 // - a reading that was in time and is no higher than 2^40, of a record that is done or refused with 6 to 9 (or with 4 for
-//   its peer alone), and the one or two bytes of a peer or a dialogue's name, of an invoke id, an algorithm's number or a
-//   problem;
+//   its peer alone), and the one or two bytes of a peer or a dialogue's name of such a record;
+// - the one or two bytes of an invoke id, an algorithm's number or a problem, whatever came of the record;
 // - the size of such a record, where a length was wrong and the key stands as the next record's head.
 ghost use Rattle.std.specs.Prelude.{◌≡◌};
 ghost use Rattle.std.specs.Option.{option_map};

@@ -10,7 +10,7 @@ use Rattle.entries.specs.declared.subscriber.Subscriber.{Subscriber}
 use Rattle.entries.specs.Entries.{adding_answer, adding_left}
 use Rattle.entries.specs.Link.{link_key, link_to}
 use Rattle.entries.specs.Subscriber.{subscriber_key, subscriber_of}
-use Rattle.exchange.specs.declared.outcome.Done.{Done}
+use Rattle.exchange.specs.Done.{Done}
 use Rattle.exchange.specs.declared.outcome.Done.TheVariants.{Quiet}
 use Rattle.exchange.specs.declared.service.Service.{Service}
 use Rattle.exchange.specs.Service.{by}

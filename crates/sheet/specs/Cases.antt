@@ -46,6 +46,10 @@ can = 1
 abbrev pub fits_out : ℕ → ℕ → List ℕ
 fits_out t1 computing = asks tape.FitOut (time t1 ++ time 15001 ++ time 15002 ++ time 15003 ++ time 15004 ++ time 15005 ++ 1 ∷ 2 ∷ computing ∷ [])
 
+-- T2 to TR are at the least that T1 may be, and it cannot compute
+abbrev pub fits_out_evenly : ℕ → List ℕ
+fits_out_evenly t1 = asks tape.FitOut (time t1 ++ time 15000 ++ time 15000 ++ time 15000 ++ time 15000 ++ time 15000 ++ 1 ∷ 2 ∷ cannot ∷ [])
+
 abbrev pub links_to : ℕ → List ℕ
 links_to peer = asks tape.Link (peer ∷ [])
 
@@ -222,6 +226,10 @@ responds name bytes = reports report.Response name bytes
 abbrev pub in_service : ℕ → Case
 in_service computing = (fits_out 15000 computing, done) ∷ (links_to 5, done) ∷ (links_to 1, done) ∷ (links_to 2, done) ∷ []
 
+-- with a link to peer 5 alone
+abbrev pub linked_to_five : Case
+linked_to_five = (fits_out_evenly 15000, done) ∷ (links_to 5, done) ∷ []
+
 -- so many Visitor starts, under the numbers from 1 on
 abbrev pub visitors : ℕ → Case
 visitors zero = []
@@ -232,6 +240,8 @@ cases =
     -- T1 of 14,999 is refused with 10, and 15,000 is taken
     ((fits_out 14999 cannot, refusal 10) ∷ [])
     ∷ ((fits_out 15000 cannot, done) ∷ [])
+    ∷ ((fits_out_evenly 14999, refusal 10) ∷ [])
+    ∷ ((fits_out_evenly 15000, done) ∷ [])
     -- a dialogue is opened and nobody answers: every byte written out
     ∷ ((hex "10001B 00003A98 00003A98 00003A98 00003A98 00003A98 00003A98 01 02 00", hex "330000")
     ∷ (hex "110001 05", hex "330000")
@@ -243,7 +253,13 @@ cases =
     ++ (initiates 1000 "123451234512345", sends 5 (invoke 1 auth_wtm_user (user "123451234512345")))
     ∷ (initiates 1000 "0123451234512345", refusal 4)
     ∷ [])
+    ∷ (linked_to_five ++ (initiates 1000 "123451234512345", sends 5 (invoke 1 auth_wtm_user (user "123451234512345"))) ∷ [])
+    ∷ (linked_to_five ++ (initiates 1000 "0123451234512345", refusal 4) ∷ [])
     -- users 0 and 00 differ: each is asked for by its own digits
+    ∷ (linked_to_five
+    ++ (initiates 1000 "0", sends 5 (invoke 1 auth_wtm_user (user "0")))
+    ∷ (initiates 1000 "00", sends 5 (invoke 2 auth_wtm_user (user "00")))
+    ∷ [])
     ∷ (in_service cannot
     ++ (initiates 1000 "0", sends 5 (invoke 1 auth_wtm_user (user "0")))
     ∷ (initiates 1000 "00", sends 5 (invoke 2 auth_wtm_user (user "00")))
@@ -266,6 +282,11 @@ cases =
     ++ (initiates 1000 "200", sends 5 (invoke 1 auth_wtm_user (user "200")))
     ∷ (initiates 15999 "200", sends 5 (invoke 2 auth_wtm_user (user "200")))
     ∷ (initiates 16000 "200", refusal 3)
+    ∷ [])
+    ∷ (linked_to_five
+    ++ (initiates 1000 "12345", sends 5 (invoke 1 auth_wtm_user (user "12345")))
+    ∷ (initiates 15999 "12345", sends 5 (invoke 2 auth_wtm_user (user "12345")))
+    ∷ (initiates 16000 "12345", refusal 3)
     ∷ [])
     -- an answer at the timer's end is refused with 3, and after the clock call with 6
     ∷ (in_service cannot

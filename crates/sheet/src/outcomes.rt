@@ -31,23 +31,6 @@ fn reported<'a>(name: OwnNumber, report: Report) -> SheetRecord<'a>
     SheetRecord::Reported { name, report }
 }
 
-// The record of an outcome; an APDU that is sent stands at the front of the buffer.
-#[inline(always)]
-fn record_of<'a>(outcome: &Result<Done, Refusal>, buffer: &'a [u8; LEAST_BUFFER]) -> SheetRecord<'a>
-    ensures value { sheet_view result ≡ outcome_entry outcome.now buffer.now }
-    ensures short { IsShort (sheet_view result) }
-{
-    match *outcome {
-        Ok(Done::Quiet) => SheetRecord::Done,
-        Ok(Done::Sent { peer, size }) => {
-            let apdu = first_bytes(buffer, size);
-            SheetRecord::Sent { peer, apdu }
-        }
-        Ok(Done::Reported { name, report }) => reported(name, report),
-        Err(refusal) => SheetRecord::Refused(refusal),
-    }
-}
-
 // Adds a record to the sheet, as one slice: all of it or nothing.
 #[inline(always)]
 pub(crate) fn add_record(added: &SheetRecord<'_>, sheet: &mut Vec<u8>) -> Result<(), AllocError>
@@ -61,7 +44,7 @@ pub(crate) fn add_record(added: &SheetRecord<'_>, sheet: &mut Vec<u8>) -> Result
     sheet.extend_from_slice(&bytes[..size])
 }
 
-// Adds the record of an outcome.
+// Adds the record of an outcome; an APDU that is sent stands at the front of the buffer.
 #[inline(always)]
 pub(crate) fn add_outcome(
     outcome: &Result<Done, Refusal>,
@@ -70,5 +53,13 @@ pub(crate) fn add_outcome(
 ) -> Result<(), AllocError>
     ensures { Adds result sheet.old sheet.new (outcome_entry outcome.now buffer.now ∷ []) }
 {
-    add_record(&record_of(outcome, buffer), sheet)
+    match *outcome {
+        Ok(Done::Quiet) => add_record(&SheetRecord::Done, sheet),
+        Ok(Done::Sent { peer, size }) => {
+            let apdu = first_bytes(buffer, size);
+            add_record(&SheetRecord::Sent { peer, apdu }, sheet)
+        }
+        Ok(Done::Reported { name, report }) => add_record(&reported(name, report), sheet),
+        Err(refusal) => add_record(&SheetRecord::Refused(refusal), sheet),
+    }
 }

@@ -1,12 +1,13 @@
 // Users, by their numbers.
-ghost use Rattle.std.specs.Prelude.{◌≡◌, ◌+◌, ◌^◌, ◌<◌, ◌≤◌, true, [], ◌∷◌, length, IfSome};
+ghost use Rattle.std.specs.Prelude.{◌≡◌, ◌+◌, ◌/◌, ◌%◌, ◌^◌, ◌<◌, ◌≤◌, true, [], ◌∷◌, length, IfSome};
+ghost use Rattle.wire.specs.Digits.{digits};
 ghost use Rattle.wire.specs.Fields.{head_size, field};
 ghost use Rattle.wire.specs.Fronts.{HasRoom, InOneBuffer, Wrote};
-ghost use Rattle.values.specs.User.{most_digits, number, user_number, user_digits, zero_user, is_user, user_with_key};
+ghost use Rattle.values.specs.User.{count_unit, most_digits, number, user_number, user_digits, zero_user, is_user, user_with_key};
 ghost use Rattle.values.specs.Laws.{NoTwoWithOneKey, ZerosDiffer};
 
 use std::marker::Model;
-use wire::Writer;
+use wire::{Writer, put_digits};
 
 /// A user, by a number of 1 to 15 digits, leading zeros counted. It is kept as count of digits × 10^15 + value, so that 0
 /// and 00 differ, and that is its key.
@@ -109,6 +110,24 @@ impl User {
         key
     }
 
+    /// How many digits it has, 1 to 15.
+    #[inline(always)]
+    pub fn count(self) -> usize
+        ensures value { result ≡ self / count_unit }
+        ensures count { result ≡ length (user_digits self) }
+        ensures bound { result ≤ most_digits }
+    {
+        (self.key / COUNT_UNIT) as usize
+    }
+
+    /// Puts the last of its digits, in ASCII, as many as there are places; with a place for each digit, all of them.
+    pub fn put(self, places: &mut [u8])
+        ensures last { places.new ≡ digits (length places.old) (self % count_unit) }
+        ensures all { length places.old ≡ length (user_digits self) → places.new ≡ user_digits self }
+    {
+        put_digits(places, self.key % COUNT_UNIT)
+    }
+
     /// Writes its digits as a field of at most 18 bytes in all.
     #[inline(always)]
     pub fn write(self, tag: u8, writer: &mut Writer<'_>)
@@ -118,6 +137,6 @@ impl User {
         ensures bound { length (user_digits self) ≤ most_digits }
         ensures lawful { is_user self ≡ true }
     {
-        writer.digits(tag, (self.key / COUNT_UNIT) as usize, self.key % COUNT_UNIT);
+        writer.digits(tag, self.count(), self.key % COUNT_UNIT);
     }
 }

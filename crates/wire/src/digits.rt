@@ -9,8 +9,8 @@ fn last_digit(number: u64) -> u8
     b'0' + (number % 10) as u8
 }
 
-// As many digits of a number as there are places, the last digit in the last place.
-pub(crate) fn put_digits(places: &mut [u8], number: u64)
+/// Puts as many digits of a number as there are places, in ASCII, the last digit in the last place; leading zeros are included.
+pub fn put_digits(places: &mut [u8], number: u64)
     ensures { places.new ≡ digits (length places.old) number }
 {
     let mut number = number;

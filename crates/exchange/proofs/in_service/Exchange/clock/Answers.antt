@@ -1,5 +1,5 @@
 use Rattle.std.proofs.Common.{◌≡◌, Some, None, Ok, subst, sym, ◌∙◌}
-use Rattle.exchange.specs.declared.outcome.Done.{Done}
+use Rattle.exchange.specs.Done.{Done}
 use Rattle.exchange.specs.declared.service.Service.{Service}
 use Rattle.exchange.specs.Laws.{Earliest, NoneEnded}
 use Rattle.exchange.specs.Table.{first_to_end}
